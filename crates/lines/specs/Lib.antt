@@ -1,2 +1,3 @@
 pub mod Shared
 pub mod Expense
+pub mod Figures
