@@ -1,2 +1,4 @@
 pub mod Halves
+pub mod Written
 pub mod Answered
+pub mod Peaks

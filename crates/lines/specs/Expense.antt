@@ -37,20 +37,26 @@ expense-in-range (pos n) = leb n 4000000000
 expense-in-range (negsuc n) = false
 
 -- line 22 can be shared, and among as many participants as line 21
-abbrev pub peaks-shareable : ℤ → List ℤ → List ℤ → ℕ → Bool
-peaks-shareable e volumes peaks places = eqb (length peaks) (length volumes) && shareable (peak-pool e) peaks places
+abbrev pub peaks-shareable : ℤ → ℕ → List ℤ → ℕ → Bool
+peaks-shareable e participants peaks places = eqb (length peaks) participants && shareable (peak-pool e) peaks places
 
-abbrev pub peaks-fault : List ℤ → List ℤ → ℕ → Fault
-peaks-fault volumes peaks places = cond (eqb (length peaks) (length volumes)) (line-fault 22 peaks places) (on-charge-line 22 (fault SharingLimits Share 0))
+-- the refusal where it cannot: with another number of participants it has no place
+abbrev pub peaks-fault : ℕ → List ℤ → ℕ → Fault
+peaks-fault participants peaks places = cond (eqb (length peaks) participants) (line-fault 22 peaks places) (on-charge-line 22 (fault SharingLimits Share 0))
+
+-- the test of line 22
+abbrev pub Peaks-checked : ℤ → ℕ → List ℤ → ℕ → Result Unit Fault → Type 0
+Peaks-checked e participants peaks places (Ok _) = peaks-shareable e participants peaks places ≡ true
+Peaks-checked e participants peaks places (Err f) = (peaks-shareable e participants peaks places ≡ false) × (f ≡ peaks-fault participants peaks places)
 
 -- why an expense is not shared: the weights or list of line 21, those of line 22, the expense's range
 abbrev pub expense-refusal : ℤ → List ℤ → List ℤ → ℕ → ℕ → Option Fault
 expense-refusal e volumes peaks places21 places22 =
     cond (shareable (volume-pool e) volumes places21)
-      (cond (peaks-shareable e volumes peaks places22)
-        (cond (expense-in-range e) None (Some (fault ExpenseOutOfRange Share 0)))
-        (Some (peaks-fault volumes peaks places22)))
-      (Some (line-fault 21 volumes places21))
+    (cond (peaks-shareable e (length volumes) peaks places22)
+    (cond (expense-in-range e) None (Some (fault ExpenseOutOfRange Share 0)))
+    (Some (peaks-fault (length volumes) peaks places22)))
+    (Some (line-fault 21 volumes places21))
 
 -- both lists as the rule shares the two pools, each fairly, and every cent of the expense in one of them
 pub record Expense-shared (rule : ℤ → List ℤ → List ℤ) (e : ℤ) (volumes peaks : List ℤ) (line21 line22 : List ℤ) : Type 0 where

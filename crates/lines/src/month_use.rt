@@ -27,11 +27,25 @@ fn has_ten_digits(figure: i64) -> bool
 
 impl MonthUse {
     // The use with these figures, where each has at most ten digits.
-    pub fn new(load: MegawattHours, generation: MegawattHours, peak_load: Kilowatts, peak_generation: Kilowatts) -> Option<MonthUse>
+    pub fn new(
+        load: MegawattHours,
+        generation: MegawattHours,
+        peak_load: Kilowatts,
+        peak_generation: Kilowatts,
+    ) -> Option<MonthUse>
         ensures { λ r. ⌜ BySome r (figures-fit (load .0) (generation .0) («peak_load» .0) («peak_generation» .0) ≡ false) (λ u. (u .load ≡ load) × (u .generation ≡ generation) × (u .«peak_load» ≡ «peak_load») × (u .«peak_generation» ≡ «peak_generation»)) ⌝ }
     {
-        if has_ten_digits(load.0) && has_ten_digits(generation.0) && has_ten_digits(peak_load.0) && has_ten_digits(peak_generation.0) {
-            Some(MonthUse { load, generation, peak_load, peak_generation })
+        if has_ten_digits(load.0)
+            && has_ten_digits(generation.0)
+            && has_ten_digits(peak_load.0)
+            && has_ten_digits(peak_generation.0)
+        {
+            Some(MonthUse {
+                load,
+                generation,
+                peak_load,
+                peak_generation,
+            })
         } else {
             None
         }

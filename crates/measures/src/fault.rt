@@ -100,20 +100,40 @@ impl Fault {
     pub fn new(cause: Cause, layer: Layer, place: usize) -> Fault
         ensures { λ r. ⌜ r ≡ fault cause layer place ⌝ }
     {
-        Fault { cause, layer, place, charge_line: 0, text_line: 0 }
+        Fault {
+            cause,
+            layer,
+            place,
+            charge_line: 0,
+            text_line: 0,
+        }
     }
 
     // The same fault with the charge line added by the layer above; one that has a charge line keeps it.
     pub fn on_charge_line(self, line: u8) -> Fault
         ensures { λ r. ⌜ r ≡ on-charge-line line self ⌝ }
     {
-        if self.charge_line == 0 { Fault { charge_line: line, ..self } } else { self }
+        if self.charge_line == 0 {
+            Fault {
+                charge_line: line,
+                ..self
+            }
+        } else {
+            self
+        }
     }
 
     // The same fault with the text line added by the layer above; one that has a text line keeps it.
     pub fn on_text_line(self, line: usize) -> Fault
         ensures { λ r. ⌜ r ≡ on-text-line line self ⌝ }
     {
-        if self.text_line == 0 { Fault { text_line: line, ..self } } else { self }
+        if self.text_line == 0 {
+            Fault {
+                text_line: line,
+                ..self
+            }
+        } else {
+            self
+        }
     }
 }

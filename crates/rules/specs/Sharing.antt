@@ -63,6 +63,11 @@ abbrev pub Shared : (ℤ → List ℤ → List ℤ) → ℤ → List ℤ → Lis
 Shared rule pool ws before after (Ok _) = (shareable pool ws (length before) ≡ true) × (amounts after ≡ rule pool ws)
 Shared rule pool ws before after (Err f) = (shareable pool ws (length before) ≡ false) × (f ≡ sharing-fault ws (length before)) × (after ≡ before)
 
+-- what checking a pool and weights answers: the sum of the weights, or the refusal
+abbrev pub Checked : ℤ → List ℤ → ℕ → Result ℕ Fault → Type 0
+Checked pool ws places (Ok w) = (shareable pool ws places ≡ true) × (w ≡ sum (sizes ws))
+Checked pool ws places (Err f) = (shareable pool ws places ≡ false) × (f ≡ sharing-fault ws places)
+
 -- one share for each place, of the size that the rule gives there, with the sign of the pool
 abbrev pub by-place : (ℕ → List ℕ → ℕ → ℕ) → ℤ → List ℤ → List ℤ
 by-place part pool ws = map (λ i. signed pool (part (natAbs pool) (sizes ws) i)) (counting 0 (length ws))
@@ -96,6 +101,10 @@ ahead f i j = ltb (f i) (f j) || (eqb (f i) (f j) && ltb j i)
 -- how many of the first n places go before place i
 abbrev pub rank : (ℕ → ℕ) → ℕ → ℕ → ℕ
 rank f n i = countBy (ahead f i) (counting 0 n)
+
+-- the rank of place i among the first n remainders of a list
+abbrev pub rank-in : List ℕ → ℕ → ℕ → ℕ
+rank-in rests n i = rank (λ j. getD rests j 0) n i
 
 -- largest remainder: the whole part, and one more where fewer places go before it than cents are left
 abbrev pub largest-part : ℕ → List ℕ → ℕ → ℕ

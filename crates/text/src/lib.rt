@@ -1,0 +1,4 @@
+// Fixed-column text: fields, right-justified, and lines.
+mod buffer;
+pub mod fields;
+pub mod lines;
