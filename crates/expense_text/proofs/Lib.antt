@@ -1,0 +1,8 @@
+pub mod Columns
+pub mod Unbroken
+pub mod Uses
+mod Examples
+pub mod Puts
+pub mod Rows
+pub mod Weighed
+pub mod Filed

@@ -1,0 +1,5 @@
+pub mod Pages
+pub mod Months
+pub mod Bills
+pub mod Files
+pub mod Refusals
