@@ -1,0 +1,10 @@
+pub mod Layers
+pub mod Means
+pub mod Members
+pub mod Priced
+pub mod Quotes
+pub mod Range
+pub mod Refusals
+pub mod Rows
+pub mod Singles
+pub mod Tables
