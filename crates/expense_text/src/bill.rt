@@ -51,7 +51,12 @@ fn push_charge(page: &mut Vec<u8>, line: u32, amount: Cents) -> Result<(), Alloc
 }
 
 // The two rows of a participant.
-fn push_participant(page: &mut Vec<u8>, participant: u32, by_volume: Cents, by_peak: Cents) -> Result<(), AllocError>
+fn push_participant(
+    page: &mut Vec<u8>,
+    participant: u32,
+    by_volume: Cents,
+    by_peak: Cents,
+) -> Result<(), AllocError>
     ensures { λ r. ⌜ Put (vec-items (now (page .entry))) (two-rows participant («by_volume» .0) («by_peak» .0)) (vec-items (now (page .exit))) r ⌝ }
 {
     push_number(page, 4, participant)?;
@@ -61,7 +66,11 @@ fn push_participant(page: &mut Vec<u8>, participant: u32, by_volume: Cents, by_p
 }
 
 // The rows of all participants.
-fn push_participants(page: &mut Vec<u8>, by_volume: &[Cents], by_peak: &[Cents]) -> Result<(), AllocError>
+fn push_participants(
+    page: &mut Vec<u8>,
+    by_volume: &[Cents],
+    by_peak: &[Cents],
+) -> Result<(), AllocError>
     requires few { ⌜ length (now «by_volume») ≤ 64 ⌝ }
     requires alike { ⌜ length (now «by_peak») ≡ length (now «by_volume») ⌝ }
     ensures { λ r. ⌜ Put (vec-items (now (page .entry))) (participant-rows 1 (now («by_volume» .entry)) (now («by_peak» .entry))) (vec-items (now (page .exit))) r ⌝ }
@@ -75,7 +84,12 @@ fn push_participants(page: &mut Vec<u8>, by_volume: &[Cents], by_peak: &[Cents])
 }
 
 // The sums of the two lines, and of both.
-fn push_sums(page: &mut Vec<u8>, by_volume: Cents, by_peak: Cents, both: Cents) -> Result<(), AllocError>
+fn push_sums(
+    page: &mut Vec<u8>,
+    by_volume: Cents,
+    by_peak: Cents,
+    both: Cents,
+) -> Result<(), AllocError>
     requires { ⌜ both .0 ≡ «by_volume» .0 +ℤ «by_peak» .0 ⌝ }
     ensures { λ r. ⌜ Put (vec-items (now (page .entry))) (sum-rows («by_volume» .0) («by_peak» .0)) (vec-items (now (page .exit))) r ⌝ }
 {
@@ -88,7 +102,12 @@ fn push_sums(page: &mut Vec<u8>, by_volume: Cents, by_peak: Cents, both: Cents) 
 }
 
 // The whole bill; the shares add up to their pools, so the pools are the sums.
-fn print_bill(heap: Global, expense: Cents, by_volume: &[Cents], by_peak: &[Cents]) -> Result<Vec<u8>, AllocError>
+fn print_bill(
+    heap: Global,
+    expense: Cents,
+    by_volume: &[Cents],
+    by_peak: &[Cents],
+) -> Result<Vec<u8>, AllocError>
     requires few { ⌜ length (now «by_volume») ≤ 64 ⌝ }
     requires alike { ⌜ length (now «by_peak») ≡ length (now «by_volume») ⌝ }
     requires volumes_add { ⌜ total (amounts (now «by_volume»)) ≡ volume-pool (expense .0) ⌝ }
@@ -127,18 +146,38 @@ fn peaks_of(uses: &[MonthUse]) -> [Kilowatts; 64]
 }
 
 // Shares an expense by the participants' use: both lists are written, or neither.
-fn share_by_use<H: Sharing>(rule: &H, expense: Cents, uses: &[MonthUse], by_volume: &mut [Cents], by_peak: &mut [Cents]) -> Result<(), Fault>
+fn share_by_use<H: Sharing>(
+    rule: &H,
+    expense: Cents,
+    uses: &[MonthUse],
+    by_volume: &mut [Cents],
+    by_peak: &mut [Cents],
+) -> Result<(), Fault>
     requires { ⌜ length (now uses) ≤ 64 ⌝ }
     ensures { λ r. ⌜ Expense-answered (H·Sharing .shares (now (rule .entry))) (expense .0) (volumes-of (now (uses .entry))) (peaks-of (now (uses .entry))) (now («by_volume» .entry)) (now («by_volume» .exit)) (now («by_peak» .entry)) (now («by_peak» .exit)) r ⌝ }
 {
     let count = uses.len();
     let volumes = volumes_of(uses);
     let peaks = peaks_of(uses);
-    share_expense(rule, expense, &volumes[0..count], &peaks[0..count], by_volume, by_peak)
+    share_expense(
+        rule,
+        expense,
+        &volumes[0..count],
+        &peaks[0..count],
+        by_volume,
+        by_peak,
+    )
 }
 
 // The bill of participants whose shares are written to lists of as many places.
-fn bill_by_use<H: Sharing>(heap: Global, rule: &H, expense: Cents, uses: &[MonthUse], by_volume: &mut [Cents], by_peak: &mut [Cents]) -> Result<Vec<u8>, Fault>
+fn bill_by_use<H: Sharing>(
+    heap: Global,
+    rule: &H,
+    expense: Cents,
+    uses: &[MonthUse],
+    by_volume: &mut [Cents],
+    by_peak: &mut [Cents],
+) -> Result<Vec<u8>, Fault>
     requires few { ⌜ length (now uses) ≤ 64 ⌝ }
     requires volume_places { ⌜ length (now «by_volume») ≡ length (now uses) ⌝ }
     requires peak_places { ⌜ length (now «by_peak») ≡ length (now uses) ⌝ }
@@ -152,7 +191,11 @@ fn bill_by_use<H: Sharing>(heap: Global, rule: &H, expense: Cents, uses: &[Month
 }
 
 // The bill of a month, its two lines shared by a sharing rule.
-pub fn expense_bill<H: Sharing>(heap: Global, rule: &H, month: &ExpenseMonth) -> Result<Vec<u8>, Fault>
+pub fn expense_bill<H: Sharing>(
+    heap: Global,
+    rule: &H,
+    month: &ExpenseMonth,
+) -> Result<Vec<u8>, Fault>
     ensures { λ r. ⌜ Bill-answered (H·Sharing .shares (now (rule .entry))) (now (month .entry) .expense .0) (vec-items (now (month .entry) .participants)) r ⌝ }
 {
     let uses = month.participants.as_slice();
@@ -162,5 +205,12 @@ pub fn expense_bill<H: Sharing>(heap: Global, rule: &H, month: &ExpenseMonth) ->
     }
     let mut by_volume = [Cents(0); 64];
     let mut by_peak = [Cents(0); 64];
-    bill_by_use(heap, rule, month.expense, uses, &mut by_volume[0..count], &mut by_peak[0..count])
+    bill_by_use(
+        heap,
+        rule,
+        month.expense,
+        uses,
+        &mut by_volume[0..count],
+        &mut by_peak[0..count],
+    )
 }

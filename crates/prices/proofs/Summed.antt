@@ -15,7 +15,8 @@ use Rattle.std.proofs.shelf.Tests.{and-parts, and-left, and-right, leb-true}
 use Rattle.std.specs.Options.{isSome}
 use Rattle.std.specs.declared.option.Option.{Option}
 use Rattle.std.specs.declared.option.Option.the-variants.{Some, None}
-use Rattle.prices.specs.Means.{all-priced, component, congestion-of, energy-of, first-energy, loss-of, nearest-mean, signed, weighted-mean, weighted-sum}
+use Rattle.measures.specs.Signs.{signed}
+use Rattle.prices.specs.Means.{all-priced, component, congestion-of, energy-of, first-energy, loss-of, nearest-mean, weighted-mean, weighted-sum}
 use Rattle.prices.specs.Members.{total-weight, weight-in-range, weights-in-range}
 use Rattle.prices.specs.Quotes.{Quote}
 use Rattle.prices.specs.declared.member.Member.{Member}

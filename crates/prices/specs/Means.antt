@@ -2,7 +2,8 @@
 use Prim.Native.Nat.{ℕ, _+_, _*_, _/_}
 use mathlib.Core.Bool.{Bool, true, cond, _&&_}
 use mathlib.Core.List.{List, [], _∷_}
-use lib.IntN.{ℤ, pos, negsuc, negℤ, natAbs, _+ℤ_, _*ℤ_}
+use lib.IntN.{ℤ, pos, natAbs, _+ℤ_, _*ℤ_}
+use Rattle.measures.specs.Signs.{signed}
 use Rattle.std.specs.Options.{isSome}
 use Rattle.std.specs.declared.option.Option.{Option}
 use Rattle.std.specs.declared.option.Option.the-variants.{Some, None}
@@ -13,11 +14,6 @@ use Rattle.prices.specs.declared.member.Member.{Member}
 use Rattle.prices.specs.declared.price.Market.{Market}
 use Rattle.prices.specs.declared.price.Price.{Price}
 use Rattle.prices.specs.declared.row.Components.{Components}
-
--- a size with the sign of x
-abbrev pub signed : ℤ → ℕ → ℤ
-signed (pos x) n = pos n
-signed (negsuc x) n = negℤ (pos n)
 
 -- x / w to the nearest whole number, halves away from zero
 abbrev pub nearest-mean : ℤ → ℕ → ℤ

@@ -6,7 +6,7 @@ use measures::fault::Fault;
 use measures::fault::Layer;
 
 // A fault of the price layer; place 0 says that there is none.
-pub fn price_fault(cause: Cause, place: usize) -> Fault
+pub(crate) fn price_fault(cause: Cause, place: usize) -> Fault
     ensures { λ r. ⌜ r ≡ price-fault cause place ⌝ }
 {
     Fault::new(cause, Layer::Price, place)

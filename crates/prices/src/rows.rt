@@ -39,7 +39,7 @@ fn find(rows: &[PriceRow], code: &LocationCode, market: Market) -> Option<Price>
 }
 
 // The same, where the code is well-formed.
-pub fn quote_in(rows: &[PriceRow], code: &LocationCode, market: Market) -> Option<Price>
+pub(crate) fn quote_in(rows: &[PriceRow], code: &LocationCode, market: Market) -> Option<Price>
     ensures { λ r. ⌜ r ≡ rows-quote (now (rows .entry)) (now (code .entry)) market ⌝ }
 {
     if code.is_well_formed() {
@@ -82,7 +82,7 @@ fn has_their_energy(rows: &[PriceRow], row: &PriceRow) -> bool
 }
 
 // Why a row may not be added, the first cause that applies.
-pub fn refusal(rows: &[PriceRow], row: &PriceRow) -> Option<Fault>
+pub(crate) fn refusal(rows: &[PriceRow], row: &PriceRow) -> Option<Fault>
     ensures { λ r. ⌜ r ≡ row-refusal (now (rows .entry)) (now (row .entry)) ⌝ }
 {
     if !row.code.is_well_formed() {

@@ -13,7 +13,8 @@ use Rattle.std.proofs.shelf.Counted.{length-map-counting, getD-map-counting}
 use Rattle.std.proofs.shelf.Lists.{length-map, map-set, take-more, take-more-set, take-all}
 use Rattle.std.proofs.shelf.Sums.{sumBy-cons}
 use Rattle.measures.specs.declared.amounts.Cents.{Cents}
-use Rattle.rules.specs.Rounding.{Near, signed}
+use Rattle.measures.specs.Signs.{signed}
+use Rattle.rules.specs.Rounding.{Near}
 use Rattle.rules.specs.Sharing.{total, sizes, first-negative, amounts, Fair, by-place}
 use Rattle.rules.proofs.Weights.{length-sizes, total-is, weight-is}
 

@@ -1,17 +1,13 @@
 -- Rounding rules: a number of cents for each number of thousandths of a cent.
 use Prim.Native.Nat.{ℕ, _+_, _/_, _%_, _<_}
 use lib.Dec.{ltb, eqb}
-use lib.IntN.{ℤ, pos, negsuc, negℤ, natAbs, _-ℤ_}
+use lib.IntN.{ℤ, natAbs, _-ℤ_}
+use Rattle.measures.specs.Signs.{signed}
 use mathlib.Core.Bool.{cond, _&&_, _||_}
 
 -- a lies less than d from b
 abbrev pub Near : ℕ → ℤ → ℤ → Type 0
 Near d a b = natAbs (a -ℤ b) < d
-
--- the size n with the sign of x
-abbrev pub signed : ℤ → ℕ → ℤ
-signed (pos m) n = pos n
-signed (negsuc m) n = negℤ (pos n)
 
 -- nearest, halves away from zero
 abbrev pub half-away : ℤ → ℤ

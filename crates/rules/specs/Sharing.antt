@@ -15,7 +15,8 @@ use Rattle.measures.specs.declared.amounts.Cents.{Cents}
 use Rattle.measures.specs.declared.fault.Cause.the-variants.{SharingLimits}
 use Rattle.measures.specs.declared.fault.Fault.{Fault}
 use Rattle.measures.specs.declared.fault.Layer.the-variants.{Share}
-use Rattle.rules.specs.Rounding.{Near, signed}
+use Rattle.measures.specs.Signs.{signed}
+use Rattle.rules.specs.Rounding.{Near}
 
 -- the sum of signed numbers
 abbrev pub total : List ℤ → ℤ

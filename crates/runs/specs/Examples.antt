@@ -35,7 +35,7 @@ abbrev pub Mean-examples : Type 0
 Mean-examples =
     (below : Quote) (m : Market) (a b : LocationCode) (p q : Price) → below a m ≡ Some p → below b m ≡ Some q → congestion-of p ≡ pos 100 → congestion-of q ≡ pos 205
     → (weighted-mean congestion-of below m (member a (pos 1) ∷ member b (pos 1) ∷ []) ≡ pos 153)
-      × (weighted-mean congestion-of below m (member a (pos 3) ∷ member b (pos 1) ∷ []) ≡ pos 126)
+    × (weighted-mean congestion-of below m (member a (pos 3) ∷ member b (pos 1) ∷ []) ≡ pos 126)
 
 -- all of them together
 abbrev pub Worked-examples : Type 0

@@ -6,6 +6,7 @@ use rules::sharing::LargestRemainder;
 
 // The rules of a run that names none.
 pub type DefaultRounding = HalfAwayFromZero;
+
 pub type DefaultSharing = LargestRemainder;
 
 #[derive(Drop)]
@@ -19,7 +20,11 @@ pub struct Run<S, R = DefaultRounding, H = DefaultSharing> {
 pub fn default_run<S>(source: S) -> Run<S>
     ensures { λ r. ⌜ r .source ≡ source ⌝ }
 {
-    Run { source, rounding: HalfAwayFromZero, sharing: LargestRemainder }
+    Run {
+        source,
+        rounding: HalfAwayFromZero,
+        sharing: LargestRemainder,
+    }
 }
 
 // The worked examples of rounding, sharing and means hold of the definitions that the contracts cite.

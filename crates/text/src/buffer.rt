@@ -11,13 +11,13 @@ const ROOM: usize = 21;
 
 // The text stands in the columns from `start` on.
 #[derive(Clone, Copy)]
-pub struct TextBuffer {
+pub(crate) struct TextBuffer {
     columns: [u8; ROOM],
     start: usize,
 }
 
 impl TextBuffer {
-    pub fn new() -> TextBuffer
+    pub(crate) fn new() -> TextBuffer
         ensures bytes { λ r. ⌜ buffered r ≡ [] ⌝ }
         ensures room { λ r. ⌜ r .start ≡ 21 ⌝ }
     {
@@ -28,7 +28,7 @@ impl TextBuffer {
     }
 
     // Puts a byte before the text.
-    pub fn put(&mut self, byte: u8)
+    pub(crate) fn put(&mut self, byte: u8)
         requires room { ⌜ 0 < now self .start ⌝ }
         requires within { ⌜ now self .start ≤ 21 ⌝ }
         ensures bytes { λ _. ⌜ buffered (now (self .exit)) ≡ byte ∷ buffered (now (self .entry)) ⌝ }
@@ -39,7 +39,7 @@ impl TextBuffer {
     }
 
     // Puts the last digit of a number before the text.
-    pub fn put_digit(&mut self, number: u64)
+    pub(crate) fn put_digit(&mut self, number: u64)
         requires room { ⌜ 0 < now self .start ⌝ }
         requires within { ⌜ now self .start ≤ 21 ⌝ }
         ensures bytes { λ _. ⌜ buffered (now (self .exit)) ≡ (48 + number % 10) ∷ buffered (now (self .entry)) ⌝ }
@@ -49,7 +49,7 @@ impl TextBuffer {
     }
 
     // Puts a number before the text.
-    pub fn put_number(&mut self, number: u64)
+    pub(crate) fn put_number(&mut self, number: u64)
         requires room { ⌜ length (decimal number) ≤ now self .start ⌝ }
         requires within { ⌜ now self .start ≤ 21 ⌝ }
         ensures bytes { λ _. ⌜ buffered (now (self .exit)) ≡ decimal number ++ buffered (now (self .entry)) ⌝ }
@@ -61,7 +61,7 @@ impl TextBuffer {
         }
     }
 
-    pub fn bytes(&self) -> &[u8]
+    pub(crate) fn bytes(&self) -> &[u8]
         requires within { ⌜ now self .start ≤ 21 ⌝ }
         ensures { λ r. ⌜ now r ≡ buffered (now (self .entry)) ⌝ }
     {

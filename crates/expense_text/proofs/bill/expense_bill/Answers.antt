@@ -15,4 +15,3 @@ returns-then-count-gt64 g c =
     let read = ap length (c .as-slice-uses .ensures .value) in
     let many : 64 < length us = omega (arith, read) in
     inl (too-many (c .args .month .now .expense .0) us many ∙ ap Some (sym (c .wrong-count .ensures)))
-

@@ -9,7 +9,7 @@ use native.Mathlib.Omega.{arith}
 use borrow.Author.Needs.{needs}
 use Rattle.std.proofs.shelf.Signed.{toZ-ofZ}
 use Rattle.std.proofs.shelf.Ways.{tells}
-use Rattle.rules.specs.Rounding.{signed}
+use Rattle.measures.specs.Signs.{signed}
 use Rattle.rules.specs.Sharing.{sizes, largest-part, largest-remainder}
 use Rattle.rules.proofs.LargestParts.{step-fits, step-value}
 use Rattle.rules.proofs.Ranks.{mark}

@@ -6,7 +6,7 @@ use mir.Val.{toZ, ofZ}
 use native.Mathlib.Omega.{arith}
 use borrow.Author.Needs.{needs}
 use Rattle.std.proofs.shelf.Signed.{toZ-ofZ}
-use Rattle.rules.specs.Rounding.{signed}
+use Rattle.measures.specs.Signs.{signed}
 use Rattle.rules.specs.Sharing.{sizes, running-part, running}
 use Rattle.rules.proofs.RunningParts.{Step, running-step}
 use Rattle.rules.proofs.Shareable.{shareable-facts}
