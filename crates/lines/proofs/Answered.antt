@@ -8,13 +8,13 @@ use mathlib.Core.List.{List, map}
 use mathlib.Core.Path.{_≡_, refl, sym, ap, subst, _∙_}
 use native.Mathlib.Nat.{sub-zero}
 use native.Mathlib.Omega.{arith}
-use Rattle.std.proofs.shelf.Tests.{and-parts, eqb-true}
 use Rattle.std.proofs.shelf.Ways.{tells}
 use Rattle.std.specs.declared.result.Result.the-variants.{Ok}
 use Rattle.measures.specs.declared.amounts.Cents.{Cents}
 use Rattle.measures.specs.Faults.{fault, on-charge-line}
 use Rattle.measures.specs.declared.fault.Cause.the-variants.{SharingLimits}
 use Rattle.measures.specs.declared.fault.Layer.the-variants.{Share}
+use Rattle.rules.proofs.Shareable.{shareable-facts}
 use Rattle.rules.specs.Sharing.{amounts, counted, shareable, sharing-fault, Fair, Shared}
 use Rattle.lines.specs.Shared.{line-fault, Line-shared}
 
@@ -32,14 +32,10 @@ many-fault number ws places h = simp (many-not-counted ws places h) refl
 pub lent-units : {X : Type 0} (f : X → ℤ) (units : List ℤ) (read weights : List X) → take (length read) units ≡ map f read → read ≡ weights → take (length read - 0) units ≡ map f weights
 lent-units f units read weights e same = ap (λ (k : ℕ). take k units) (sub-zero (length read)) ∙ e ∙ ap (map f) same
 
--- where a pool can be shared, there are as many places as weights
-pub shareable-places : (pool : ℤ) (ws : List ℤ) (places : ℕ) → shareable pool ws places ≡ true → places ≡ length ws
-shareable-places pool ws places h = eqb-true places (length ws) (and-parts _ _ (and-parts (counted ws places) _ h .0) .0)
-
 -- an accepted share of the units is an accepted share of the line
 pub line-accepted : (rule : ℤ → List ℤ → List ℤ) (number : ℕ) (pool asked : ℤ) (ws lent : List ℤ) (before after : List Cents) → ((p : ℤ) (l : List ℤ) → shareable p l (length l) ≡ true → Fair p l (rule p l)) → asked ≡ pool → lent ≡ ws → Shared rule asked lent before after (Ok tt) → Line-shared rule number pool ws before after (Ok tt)
 line-accepted rule number pool asked ws lent before after fair p l h =
     let can : shareable pool ws (length before) ≡ true = subst (λ (a : ℤ). shareable a ws (length before) ≡ true) p (subst (λ (u : List ℤ). shareable asked u (length before) ≡ true) l (h .0)) in
     let shares : amounts after ≡ rule pool ws = h .1 ∙ ap (rule asked) l ∙ ap (λ (a : ℤ). rule a ws) p in
-    let all = subst (λ (n : ℕ). shareable pool ws n ≡ true) (shareable-places pool ws (length before) can) can in
+    let all = subst (λ (n : ℕ). shareable pool ws n ≡ true) (shareable-facts pool ws (length before) can .each) can in
     (can, shares, subst (Fair pool ws) (sym shares) (fair pool ws all))
