@@ -15,7 +15,7 @@ use Rattle.measures.specs.declared.amounts.Cents.{Cents}
 use Rattle.measures.specs.declared.fault.Cause.the-variants.{SharingLimits, ExpenseOutOfRange}
 use Rattle.measures.specs.declared.fault.Fault.{Fault}
 use Rattle.measures.specs.declared.fault.Layer.the-variants.{Share}
-use Rattle.rules.specs.Sharing.{amounts, shareable, total, Fair}
+use Rattle.rules.specs.Sharing.{amounts, shareable, total, Fair, Within}
 use Rattle.lines.specs.Shared.{line-fault}
 
 -- half of an amount, rounded down
@@ -58,12 +58,14 @@ expense-refusal e volumes peaks places21 places22 =
     (Some (peaks-fault (length volumes) peaks places22)))
     (Some (line-fault 21 volumes places21))
 
--- both lists as the rule shares the two pools, each fairly, and every cent of the expense in one of them
+-- both lists as the rule shares the two pools, each fairly; nobody charged less than 0 or more than a pool; every cent of the expense in one of them
 pub record Expense-shared (rule : ℤ → List ℤ → List ℤ) (e : ℤ) (volumes peaks : List ℤ) (line21 line22 : List ℤ) : Type 0 where
   pub by-volume : line21 ≡ rule (volume-pool e) volumes
   pub by-peak : line22 ≡ rule (peak-pool e) peaks
   pub volume-fair : Fair (volume-pool e) volumes line21
   pub peak-fair : Fair (peak-pool e) peaks line22
+  pub volume-within : Within (volume-pool e) line21
+  pub peak-within : Within (peak-pool e) line22
   pub every-cent : total line21 +ℤ total line22 ≡ e
 
 -- both lists are written, or neither

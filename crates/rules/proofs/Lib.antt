@@ -4,3 +4,4 @@ pub mod Shares
 pub mod RunningParts
 pub mod Ranks
 pub mod LargestParts
+pub mod Within

@@ -3,6 +3,7 @@ use Prim.Native.Nat.{ℕ, suc, _+_, _-_, _*_, _/_, _%_, _<_}
 use lib.Dec.{ltb, leb, eqb}
 use lib.IntN.{ℤ, pos, negsuc, natAbs, _+ℤ_, _*ℤ_}
 use lib.ListN.{length, getD, take}
+use lib.Signed.{_≤ℤ_}
 use mathlib.Core.Bool.{Bool, true, false, cond, _&&_, _||_}
 use mathlib.Core.List.{List, [], _∷_, map}
 use mathlib.Core.Path.{_≡_}
@@ -58,6 +59,10 @@ pub record Fair (pool : ℤ) (weights shares : List ℤ) : Type 0 where
   pub each : length shares ≡ length weights
   pub adds : total shares ≡ pool
   pub near : (i : ℕ) → i < length weights → Near (natAbs (total weights)) (getD shares i (pos 0) *ℤ total weights) (pool *ℤ getD weights i (pos 0))
+
+-- nobody is charged less than 0 or more than the pool
+abbrev pub Within : ℤ → List ℤ → Type 0
+Within pool shares = (i : ℕ) → i < length shares → (pos 0 ≤ℤ getD shares i (pos 0)) × (getD shares i (pos 0) ≤ℤ pool)
 
 -- what asking a rule answers, and what the list handed over then holds
 abbrev pub Shared : (ℤ → List ℤ → List ℤ) → ℤ → List ℤ → List Cents → List Cents → Result Unit Fault → Type 0
