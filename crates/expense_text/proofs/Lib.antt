@@ -6,3 +6,4 @@ pub mod Puts
 pub mod Rows
 pub mod Weighed
 pub mod Filed
+pub mod Shown

@@ -1,8 +1,8 @@
 -- The bill of a month's expense: every byte of it.
-use Prim.Native.Nat.{ℕ, suc}
+use Prim.Native.Nat.{ℕ, suc, _<_, _≤_}
 use lib.Chars.{codes}
 use lib.IntN.{ℤ, pos, _+ℤ_}
-use lib.ListN.{length}
+use lib.ListN.{length, getD}
 use mathlib.Core.List.{List, [], _∷_, _++_, map}
 use mathlib.Core.Logic.{_⊎_}
 use mathlib.Core.Path.{_≡_}
@@ -18,7 +18,7 @@ use Rattle.measures.specs.declared.amounts.Kilowatts.{Kilowatts}
 use Rattle.measures.specs.declared.amounts.MegawattHours.{MegawattHours}
 use Rattle.measures.specs.declared.fault.Fault.{Fault}
 use Rattle.rules.specs.Sharing.{amounts, total}
-use Rattle.lines.specs.Expense.{expense-refusal, Expense-shared}
+use Rattle.lines.specs.Expense.{Expense-shared, expense-refusal, peak-pool, volume-pool}
 use Rattle.lines.specs.declared.month_use.MonthUse.{MonthUse}
 use Rattle.text.specs.Fields.{number-text, dollars-text}
 use Rattle.expense_text.specs.Months.{no-memory}
@@ -72,6 +72,10 @@ peaks-of us = map (λ w. w .0) (map peak-weight us)
 abbrev pub bill-refusal : ℤ → List MonthUse → Option Fault
 bill-refusal e us = expense-refusal e (volumes-of us) (peaks-of us) (length us) (length us)
 
+-- every amount of a list fits its columns, so that none is blank
+abbrev pub All-shown : List Cents → Type 0
+All-shown xs = (i : ℕ) → i < length (amounts xs) → length (dollars-text (getD (amounts xs) i (pos 0))) ≤ 15
+
 -- the bytes are the bill of this month by a sharing rule: every cent of the expense in one of its rows
 pub record Is-bill (rule : ℤ → List ℤ → List ℤ) (e : ℤ) (us : List MonthUse) (bs : List ℕ) : Type 0 where
   pub by-volume : List Cents
@@ -79,6 +83,9 @@ pub record Is-bill (rule : ℤ → List ℤ → List ℤ) (e : ℤ) (us : List M
   pub accepted : bill-refusal e us ≡ None
   pub shared : Expense-shared rule e (volumes-of us) (peaks-of us) (amounts by-volume) (amounts by-peak)
   pub printed : bs ≡ bill-text by-volume by-peak
+  pub volumes-shown : All-shown by-volume
+  pub peaks-shown : All-shown by-peak
+  pub sums-shown : (length (dollars-text (volume-pool e)) ≤ 15) × (length (dollars-text (peak-pool e)) ≤ 15) × (length (dollars-text e) ≤ 15)
 
 -- what billing a month answers
 abbrev pub Bill-answered : (ℤ → List ℤ → List ℤ) → ℤ → List MonthUse → Result (Vec ℕ Global) Fault → Type 0

@@ -98,3 +98,14 @@ expense-done rule e volumes peaks before21 after21 before22 after22 (Err f) a b 
 pub by-units : {X : Type 0} (f : X → ℤ) (volumes : List X) (e : ℤ) (peaks : List ℤ) (places : ℕ) (r s : Result Unit Fault) → r ≡ s → Peaks-checked e (length volumes) peaks places r → Peaks-checked e (length (map f volumes)) peaks places s
 by-units f volumes e peaks places r s same h =
     subst (Peaks-checked e (length (map f volumes)) peaks places) same (subst (λ (n : ℕ). Peaks-checked e n peaks places r) (sym (length-map volumes f)) h)
+
+in-order : (a b c : Bool) (x y z : Fault) → cond a (cond b (cond c None (Some z)) (Some y)) (Some x) ≡ None → c ≡ true
+in-order true true true x y z h = refl
+in-order true true false x y z h = let n : _≡_ {A = ℕ} 0 1 = cc in absurd (omega arith)
+in-order true false c x y z h = let n : _≡_ {A = ℕ} 0 1 = cc in absurd (omega arith)
+in-order false b c x y z h = let n : _≡_ {A = ℕ} 0 1 = cc in absurd (omega arith)
+
+-- an expense that is not refused is in range
+pub accepted-range : (e : ℤ) (volumes peaks : List ℤ) (m n : ℕ) → expense-refusal e volumes peaks m n ≡ None → expense-in-range e ≡ true
+accepted-range e volumes peaks m n h =
+    in-order (shareable (volume-pool e) volumes m) (peaks-shareable e (length volumes) peaks n) (expense-in-range e) (line-fault 21 volumes m) (peaks-fault (length volumes) peaks n) (fault ExpenseOutOfRange Share 0) h
