@@ -46,6 +46,7 @@ participant-rows n (x ∷ xs) (y ∷ ys) = two-rows n (x .0) (y .0) ++ participa
 abbrev pub sum-rows : ℤ → ℤ → List ℕ
 sum-rows a b = codes "SUM " ++ (charge-columns (pos 21) a ++ (codes "SUM " ++ (charge-columns (pos 22) b ++ (codes "SUM       " ++ amount-columns (a +ℤ b)))))
 
+-- the first row: what each column has
 abbrev pub bill-header : List ℕ
 bill-header = codes "PART  LINE         AMOUNT\n"
 

@@ -3,6 +3,7 @@ use lib.Chars.{codes}
 use lib.IntN.{pos}
 use mathlib.Core.List.{List, [], _∷_, _++_}
 use mathlib.Core.Path.{_≡_, ap, _∙_}
+use native.Mathlib.Omega.{arith}
 use Rattle.std.specs.Of.Vec.{vec-items}
 use Rattle.std.specs.declared.result.Result.the-variants.{Ok}
 use Rattle.measures.specs.Faults.{number-of, layer-name}
@@ -18,7 +19,8 @@ returns c =
     let number = field 15 (number-text (pos (number-of (f .cause)))) in
     let layer = field 15 (layer-name (f .layer)) in
     let start : vec-items (c .push .last .page) ≡ codes "ERR " = c .in-Continue-push .ensures tt ∙ ap (λ (l : List ℕ). l ++ codes "ERR ") (c .new-page .ensures .items) in
-    let at-line = put-as _ _ line _ (ap (λ (n : ℕ). field 6 (number-text (pos n))) (c .min .ensures)) (c .in-Continue-push-number .ensures tt) in
+    let shown : c .min .result ≡ min (f .«text_line») 1000000 = omega (arith, c .min .ensures) in
+    let at-line = put-as _ _ line _ (ap (λ (n : ℕ). field 6 (number-text (pos n))) shown) (c .in-Continue-push-number .ensures tt) in
     let at-number = put-as _ _ number _ (ap (λ (n : ℕ). field 15 (number-text (pos n))) (c .from .ensures ∙ c .number .ensures)) (c .in-Continue-push-number-2 .ensures tt) in
     let at-layer = put-as _ _ layer _ (ap (field 15) (c .name .ensures)) (c .in-Continue-push-name .ensures tt) in
     let end = vec-items (c .push-2 .last .page) in
