@@ -1,4 +1,4 @@
-"""The bill of a month's expense, written a second time from docs/expense.md alone.
+"""The bill of a month's expense, written a second time after docs/expense.md.
 
 Reads a month's file from standard input and prints its bill or its refusal.
 """
