@@ -1,4 +1,6 @@
 // Prints the bill of the month's expense whose file stands on standard input.
+#![tactic(auto)]
+
 use expense_text::file::bill_of_file;
 use expense_text::refusal::refusal_row;
 use rules::sharing::LargestRemainder;

@@ -1,4 +1,6 @@
 // Worked examples of rounding, sharing, price sources, postings, the month's expense and its text.
+#![tactic(auto)]
+
 #[cfg(test)]
 mod expense;
 #[cfg(test)]

@@ -1,5 +1,7 @@
 // Histories of an hour: any calls in any order, what they come to, and the laws that hold of all of them.
 // A function here does nothing; its contract is a law for every history.
+#![tactic(auto)]
+
 ghost use Rattle.std.specs.Prelude.{List};
 ghost use Rattle.histories.specs.Calls.{Call};
 ghost use Rattle.histories.specs.Examples.{WorkedHours};

@@ -1,5 +1,7 @@
 // Obligations: the positions, charge lines and congestion fund of an hour, as definitions with their laws.
 // A function here does nothing; its contract is a theorem about the definitions.
+#![tactic(auto)]
+
 ghost use Rattle.std.specs.Prelude.{◌≡◌, ℕ, ◌≤◌};
 ghost use Rattle.obligations.specs.Charges.{participants, bill, fund};
 ghost use Rattle.obligations.specs.Effects.{OnePass};

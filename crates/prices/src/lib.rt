@@ -1,4 +1,6 @@
 // Price sources: where the price of a location in a market comes from.
+#![tactic(auto)]
+
 mod faults;
 mod group;
 pub mod groups;

@@ -1,4 +1,6 @@
 // A settlement run, put together from a price source, a rounding rule and a sharing rule.
+#![tactic(auto)]
+
 ghost use Rattle.std.specs.Prelude.{◌≡◌};
 ghost use Rattle.runs.specs.Examples.{WorkedExamples};
 
