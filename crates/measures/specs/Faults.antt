@@ -1,5 +1,5 @@
 -- Faults: the number of each cause, the name of each layer, and what a layer above adds.
-use Rattle.std.specs.Prelude.{ℕ, cond, List, [], ◌∷◌, codes, ◌==◌}
+use Rattle.std.specs.Prelude.{ℕ, cond, List, codes, ◌==◌}
 use Rattle.measures.specs.declared.fault.Fault.{Fault}
 use Rattle.measures.specs.declared.fault.Cause.{Cause}
 use Rattle.measures.specs.declared.fault.Cause.TheVariants.{UnknownParticipant, Layout, QuantityOutOfRange, MalformedCode, BuyerIsSeller, UnknownPosting, PostingWithoutPrice, ComponentOutOfRange, OtherEnergyComponent, PricedAlready, GroupOutOfRange, MemberWithoutPrice, SharingLimits, ExpenseOutOfRange, ShortPage, WrongPhase, ListFull, MarketLimit, SourceFull, VoidHour, OutOfMemory}

@@ -6,4 +6,4 @@ use Rattle.expense_text.proofs.Puts.{put_then}
 use Rattle.expense_text.proofs.bill.push_charge.Goals as goal
 
 pub returns : goal.returns
-returns c = put_then (vec_items c.args.page.now) (field 6 (number_text (pos c.args.line))) (vec_items c.push-number.new.page) (amount_columns c.args.amount.0) _ c.push-amount.result c.in-ok-push-number.ensures c.push-amount.ensures
+returns c = put_then (vec_items c.args.page.now) (field 6 (number_text (pos c.args.line))) (vec_items c.push_number.new.page) (amount_columns c.args.amount.0) _ c.push_amount.result c.in_ok-push_number.ensures c.push_amount.ensures

@@ -3,14 +3,14 @@ use Rattle.std.proofs.lemmas.Result.{err_from_is_err_and}
 use Rattle.expense_text.proofs.Uses.{not_an_expense, refused_file, unended_expense}
 use Rattle.expense_text.proofs.month.read_month.Goals as goal
 
-pub returns-in-default : goal.returns-in-default
-returns-in-default c = inl (inl (unended_expense _ c.in-default.ensures, c.against-layout.ensures))
+pub returns-in_default : goal.returns-in_default
+returns-in_default c = inl (inl (unended_expense _ c.in_default.ensures, c.against_layout.ensures))
 
-pub returns-in-default-read-expense : goal.returns-in-default-read-expense
-returns-in-default-read-expense c =
-    inl (inl (not_an_expense _ _ _ c.in-Some.ensures c.in-default-read-expense.ensures, c.against-layout-in-default-read-expense.ensures))
+pub returns-in_default-read_expense : goal.returns-in_default-read_expense
+returns-in_default-read_expense c =
+    inl (inl (not_an_expense _ _ _ c.in-Some.ensures c.in_default-read_expense.ensures, c.against_layout-in_default-read_expense.ensures))
 
-pub returns-in-err-participants : goal.returns-in-err-participants
-returns-in-err-participants c =
-    let p = err_from_is_err_and c.from-residual.result c.from-residual.ensures.1 in
-    rw (p.1, p.2) (refused_file _ _ _ c.in-Some-read-expense.expense.0 _ c.in-Some.ensures c.in-Some-read-expense.ensures c.in-err-participants.ensures)
+pub returns-in_err-participants : goal.returns-in_err-participants
+returns-in_err-participants c =
+    let p = err_from_is_err_and c.from_residual.result c.from_residual.ensures.1 in
+    rw (p.1, p.2) (refused_file _ _ _ c.in-Some-read_expense.expense.0 _ c.in-Some.ensures c.in-Some-read_expense.ensures c.in_err-participants.ensures)

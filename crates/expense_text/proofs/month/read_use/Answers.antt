@@ -7,4 +7,4 @@ returns-in-80 c =
     let long : 2 ≤ length c.args.line.now = search rules in
     let p : get_or c.args.line.now 0 0 ≡ 80 = search rules in
     let a : get_or c.args.line.now 1 0 ≡ 65 = search rules in
-    use_line_read _ c.args.line.now _ long p a c.read-columns.ensures
+    use_line_read _ c.args.line.now _ long p a c.read_columns.ensures

@@ -3,19 +3,19 @@ use Rattle.expense_text.specs.Months.{layout_fault}
 use Rattle.expense_text.proofs.Uses.{all_read, not_a_use, one_more, refused_line, shorter, unended}
 use Rattle.expense_text.proofs.month.read_uses.Goals as goal
 
-pub returns-in-default : goal.returns-in-default
-returns-in-default c =
+pub returns-in_default : goal.returns-in_default
+returns-in_default c =
     let n : c.len-before.result ≡ length (vec_items c.loop-rest.participants) = search rules in
     let some : 0 < length c.loop-rest.rest.now = search rules in
-    let at-line : c.against-layout.result ≡ layout_fault (c.len-before.result + 2) = search rules in
-    refused_line _ _ c.loop-rest.rest.now c.len-before.result _ c.loop-rest.invariant some n (unended _ _ c.in-default.ensures) at-line
+    let at-line : c.against_layout.result ≡ layout_fault (c.len-before.result + 2) = search rules in
+    refused_line _ _ c.loop-rest.rest.now c.len-before.result _ c.loop-rest.invariant some n (unended _ _ c.in_default.ensures) at-line
 
-pub returns-in-default-read-use : goal.returns-in-default-read-use
-returns-in-default-read-use c =
+pub returns-in_default-read_use : goal.returns-in_default-read_use
+returns-in_default-read_use c =
     let n : c.len-before.result ≡ length (vec_items c.loop-rest.participants) = search rules in
     let some : 0 < length c.loop-rest.rest.now = search rules in
-    let at-line : c.against-layout-in-default-read-use.result ≡ layout_fault (c.len-before.result + 2) = search rules in
-    refused_line _ _ c.loop-rest.rest.now c.len-before.result _ c.loop-rest.invariant some n (not_a_use _ _ _ _ c.in-Some.ensures c.in-default-read-use.ensures) at-line
+    let at-line : c.against_layout-in_default-read_use.result ≡ layout_fault (c.len-before.result + 2) = search rules in
+    refused_line _ _ c.loop-rest.rest.now c.len-before.result _ c.loop-rest.invariant some n (not_a_use _ _ _ _ c.in-Some.ensures c.in_default-read_use.ensures) at-line
 
 pub loop-rest-smaller : goal.loop-rest-smaller
 loop-rest-smaller c = shorter _ _ _ c.in-Some.ensures
@@ -23,8 +23,8 @@ loop-rest-smaller c = shorter _ _ _ c.in-Some.ensures
 pub loop-rest-preserved : goal.loop-rest-preserved
 loop-rest-preserved c =
     let n : c.len-before.result ≡ length (vec_items c.loop-rest.participants) = search rules in
-    let p : vec_items c.push.new.self ≡ vec_items c.loop-rest.participants ++ (c.in-Some-read-use.use-of-month ∷ []) = search rules in
-    rw p (one_more _ _ _ c.loop-rest.rest.now _ _ c.loop-rest.invariant c.in-Some.ensures (rw (← n) c.in-Some-read-use.ensures))
+    let p : vec_items c.push.new.self ≡ vec_items c.loop-rest.participants ++ (c.in-Some-read_use.use_of_month ∷ []) = search rules in
+    rw p (one_more _ _ _ c.loop-rest.rest.now _ _ c.loop-rest.invariant c.in-Some.ensures (rw (← n) c.in-Some-read_use.ensures))
 
 pub returns : goal.returns
 returns c =

@@ -7,5 +7,5 @@ use Rattle.expense_text.proofs.page.push_number.Goals as goal
 pub returns : goal.returns
 returns c =
     let fits : SFits w64 c.from.result = search rules in
-    let columns = blank_part c.args.width (pos c.args.number) _ c.write-number.new.field c.requires (to_z-of_z w64 c.from.result fits ∙ c.from.ensures) c.write-number.ensures.holds in
+    let columns = blank_part c.args.width (pos c.args.number) _ c.write_number.new.field c.requires (to_z-of_z w64 c.from.result fits ∙ c.from.ensures) c.write_number.ensures.holds in
     subst (λ (bs : List ℕ). Put (vec_items c.args.page.now) bs (vec_items c.push.new.page) c.push.result) columns c.push.ensures

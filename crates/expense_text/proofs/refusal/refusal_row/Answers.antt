@@ -11,13 +11,13 @@ returns c =
     let line = field 6 (number_text (pos (min f.text_line 1000000))) in
     let number = field 15 (number_text (pos (number_of f.cause))) in
     let layer = field 15 (layer_name f.layer) in
-    let start : vec_items c.push.new.page ≡ codes "ERR " = c.in-ok-push.ensures ∙ ap (λ (l : List ℕ). l ++ codes "ERR ") c.new-page.ensures.items in
+    let start : vec_items c.push.new.page ≡ codes "ERR " = c.in_ok-push.ensures ∙ ap (λ (l : List ℕ). l ++ codes "ERR ") c.new-page.ensures.items in
     let shown : c.min.result ≡ min f.text_line 1000000 = omega (arith, c.min.ensures) in
-    let at-line = put_as _ _ line _ (ap (λ (n : ℕ). field 6 (number_text (pos n))) shown) c.in-ok-push-number.ensures in
-    let at-number = put_as _ _ number _ (ap (λ (n : ℕ). field 15 (number_text (pos n))) (c.from.ensures ∙ c.number.ensures)) c.in-ok-push-number-2.ensures in
-    let at-layer = put_as _ _ layer _ (ap (field 15) c.name.ensures) c.in-ok-push-name.ensures in
+    let at-line = put_as _ _ line _ (ap (λ (n : ℕ). field 6 (number_text (pos n))) shown) c.in_ok-push_number.ensures in
+    let at-number = put_as _ _ number _ (ap (λ (n : ℕ). field 15 (number_text (pos n))) (c.from.ensures ∙ c.number.ensures)) c.in_ok-push_number-2.ensures in
+    let at-layer = put_as _ _ layer _ (ap (field 15) c.name.ensures) c.in_ok-push_name.ensures in
     let end = vec_items c.push-2.new.page in
     put_then [] (codes "ERR ") (vec_items c.push.new.page) _ end (Ok tt) start
-    (put_then _ line (vec_items c.push-number.new.page) _ end (Ok tt) at-line
-    (put_then _ number (vec_items c.push-number-2.new.page) _ end (Ok tt) at-number
-    (put_then _ layer (vec_items c.push-name.new.page) (10 ∷ []) end (Ok tt) at-layer c.in-ok-push-2.ensures)))
+    (put_then _ line (vec_items c.push_number.new.page) _ end (Ok tt) at-line
+    (put_then _ number (vec_items c.push_number-2.new.page) _ end (Ok tt) at-number
+    (put_then _ layer (vec_items c.push_name.new.page) (10 ∷ []) end (Ok tt) at-layer c.in_ok-push-2.ensures)))

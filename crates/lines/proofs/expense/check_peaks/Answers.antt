@@ -14,4 +14,4 @@ returns-then-line-participants c =
 pub returns : goal.returns
 returns c =
     let count = length-map c.args.line.now.peaks.now (λ (w : Kilowatts). w.0) in
-    peaks_alike c.args.line.now.expense.0 c.args.participants _ c.args.places c.check-line.result (omega (arith, count, c.if-line-participants.false)) c.check-line.ensures
+    peaks_alike c.args.line.now.expense.0 c.args.participants _ c.args.places c.check_line.result (omega (arith, count, c.if-line-participants.false)) c.check_line.ensures

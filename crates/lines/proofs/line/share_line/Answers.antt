@@ -14,5 +14,5 @@ returns-then-weights-gt64 g c =
 
 pub returns-in-Ok : goal.returns-in-Ok
 returns-in-Ok g c =
-    let lent = lent_units g.L.Weight.WeightUnit.units c.units-of-units.result _ _ c.units-of-units.ensures c.weights-weights.ensures in
+    let lent = lent_units g.L.Weight.WeightUnit.units c.units_of-units.result _ _ c.units_of-units.ensures c.weights-weights.ensures in
     line_accepted (g.H.Sharing.shares c.args.rule.now) g.L.ChargeLine.number _ c.pool.result.0 _ _ c.args.to.now c.share.new.to (λ p l h. g.met.H.Sharing.fair c.args.rule.now p l h) c.pool.ensures lent c.in-Ok.ensures

@@ -5,8 +5,8 @@ use Rattle.measures.proofs.code.+is_padded.Goals as goal
 pub returns-in-empty : goal.returns-in-empty
 returns-in-empty t c = let h : length c.args.bytes.now ≡ 0 = search rules in sym (padded_end c.args.letters c.args.bytes.now h)
 
-pub returns-then-is-code-byte : goal.returns-then-is-code-byte
-returns-then-is-code-byte t c =
+pub returns-then-is_code_byte : goal.returns-then-is_code_byte
+returns-then-is_code_byte t c =
     let h : 0 < length c.args.bytes.now = search rules in
     let s = padded_step c.args.letters c.args.bytes.now h in grind arith
 

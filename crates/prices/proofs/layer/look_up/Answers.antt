@@ -13,8 +13,8 @@ use Rattle.prices.proofs.layer.look_up.Goals.{then_same, else_same}
 at_most_eight : (g : Group) → length (members_of g) ≤ 8
 at_most_eight g = let e = length-take g.count g.members in let h = g.few in omega arith
 
-pub mean-price-said-requires : goal.mean-price-said-requires
-mean-price-said-requires g c =
+pub mean_price-said-requires : goal.mean_price-said-requires
+mean_price-said-requires g c =
     let e = ap length c.members.ensures in
     let some = c.group-item.result.some in
     let few = at_most_eight c.group-item.result in
@@ -31,7 +31,7 @@ loop-group-preserved g c =
     let after = sym (laid_more q c.args.code.now c.args.market c.loop-group.said c.args.groups.now c.loop-group.group_index c.group-item.result c.loop-group-test.true c.group-item.is) ∙ c.loop-group.invariant in
     let said : c.if-same.said ≡ says q c.args.code.now c.args.market c.loop-group.said c.group-item.result =
     elim c.if-same.branch [
-      | then_same w ↦ w.said-is ∙ (w.mean-price-said.ensures ∙ (ap (group_price q c.args.market) w.members.ensures ∙ sym (cond-true _ _ _ (sym w.if-same.ensures))))
+      | then_same w ↦ w.said-is ∙ (w.mean_price-said.ensures ∙ (ap (group_price q c.args.market) w.members.ensures ∙ sym (cond-true _ _ _ (sym w.if-same.ensures))))
       | else_same w ↦ w.said-is ∙ sym (cond-false _ _ _ (sym w.if-same.ensures))
     ] in
     ap (λ (o : Option Price). laid_over q c.args.code.now c.args.market o rest) said ∙ after

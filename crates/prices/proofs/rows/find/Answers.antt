@@ -4,7 +4,7 @@ use Rattle.prices.proofs.rows.find.Goals as goal
 
 pub returns-then-same : goal.returns-then-same
 returns-then-same c =
-    c.price-in.ensures ∙ sym (found_hit _ _ _ _ _ c.loop-row-test.true c.if-same.ensures) ∙ c.loop-row.invariant
+    c.price_in.ensures ∙ sym (found_hit _ _ _ _ _ c.loop-row-test.true c.if-same.ensures) ∙ c.loop-row.invariant
 
 pub loop-row-preserved : goal.loop-row-preserved
 loop-row-preserved c = sym (found_miss _ _ _ _ _ c.loop-row-test.true c.if-same.ensures) ∙ c.loop-row.invariant

@@ -7,16 +7,16 @@ use Rattle.rules.specs.Weights.{length_sizes}
 use Rattle.rules.proofs.sharing.remainders.Goals as goal
 
 -- the turn of the loop, once its weight is read
-taken : (c : goal.After-unsigned-abs) → Turn c.args.size c.args.weights.now c.loop-i.i c.args.total c.unsigned-abs.result
+taken : (c : goal.After-unsigned_abs) → Turn c.args.size c.args.weights.now c.loop-i.i c.args.total c.unsigned_abs.result
 taken c =
-    let own : c.unsigned-abs.result ≡ nat_abs (get_or c.args.weights.now c.loop-i.i (pos 0)) = search (rules, to_z-of_z) in
-    turn c.args.size c.args.weights.now c.loop-i.i c.args.total c.unsigned-abs.result c.requires.sums c.requires.positive c.loop-i-test.true own
+    let own : c.unsigned_abs.result ≡ nat_abs (get_or c.args.weights.now c.loop-i.i (pos 0)) = search (rules, to_z-of_z) in
+    turn c.args.size c.args.weights.now c.loop-i.i c.args.total c.unsigned_abs.result c.requires.sums c.requires.positive c.loop-i-test.true own
 
-pub overflow-mul-exact : goal.overflow-mul-exact
-overflow-mul-exact c = let t = taken c in search rules
+pub overflow_mul-exact : goal.overflow_mul-exact
+overflow_mul-exact c = let t = taken c in search rules
 
-pub overflow-sub-left : goal.overflow-sub-left
-overflow-sub-left c = let t = taken c in omega arith
+pub overflow_sub-left : goal.overflow_sub-left
+overflow_sub-left c = let t = taken c in omega arith
 
 pub loop-i-preserved : goal.loop-i-preserved
 loop-i-preserved c =

@@ -7,7 +7,7 @@ pub loop-weight-preserved : goal.loop-weight-preserved
 loop-weight-preserved c =
     let ws = c.args.weights.now in
     let i = c.loop-weight.weight-index in
-    let size : c.unsigned-abs.result ≡ nat_abs (get_or ws i (pos 0)) = search (rules, to_z-of_z) in
+    let size : c.unsigned_abs.result ≡ nat_abs (get_or ws i (pos 0)) = search (rules, to_z-of_z) in
     let more = sizes_more ws i c.loop-weight-test.true in
     (omega arith, omega arith)
 

@@ -14,14 +14,14 @@ blank bs = take (length bs - 0) (replicate 18 32)
 length_blank : (bs : List ℕ) → length bs ≤ 18 → length (blank bs) ≡ length bs
 length_blank bs h = length-take (length bs - 0) (replicate 18 32) ∙ omega arith
 
-pub returns-then-write-number : goal.returns-then-write-number
-returns-then-write-number c =
+pub returns-then-write_number : goal.returns-then-write_number
+returns-then-write_number c =
     let bs = c.args.field.now in
     subst (λ (z : ℤ). Decides c.eq.result (Field bs z)) (to_z-of_z w64 c.args.number c.ranges.number)
-    (told bs (blank bs) c.write-number.new.field _ c.eq.result c.requires (length_blank bs c.requires) (sym c.write-number.ensures.answer ∙ c.if-write-number.true) c.write-number.ensures.holds (slice_eq-Decides Decides-eqb _ _ _ c.eq.ensures))
+    (told bs (blank bs) c.write_number.new.field _ c.eq.result c.requires (length_blank bs c.requires) (sym c.write_number.ensures.answer ∙ c.if-write_number.true) c.write_number.ensures.holds (slice_eq-Decides Decides-eqb _ _ _ c.eq.ensures))
 
-pub returns-else-write-number : goal.returns-else-write-number
-returns-else-write-number c =
+pub returns-else-write_number : goal.returns-else-write_number
+returns-else-write_number c =
     let bs = c.args.field.now in
-    subst (λ (z : ℤ). Decides c.write-number.result (Field bs z)) (to_z-of_z w64 c.args.number c.ranges.number)
-    (told_short bs (blank bs) _ c.write-number.result (length_blank bs c.requires) c.if-write-number.false c.write-number.ensures.answer)
+    subst (λ (z : ℤ). Decides c.write_number.result (Field bs z)) (to_z-of_z w64 c.args.number c.ranges.number)
+    (told_short bs (blank bs) _ c.write_number.result (length_blank bs c.requires) c.if-write_number.false c.write_number.ensures.answer)

@@ -3,13 +3,13 @@ use Rattle.std.proofs.lemmas.Fmt.{decimal_nonempty}
 use Rattle.text.proofs.Buffered.{length_digit, length_step, digit_before, step_before}
 use Rattle.text.proofs.buffer.TextBuffer.+put_number.Goals as goal
 
-pub put-digit-requires : goal.put-digit-requires
-put-digit-requires t c =
+pub put_digit-requires : goal.put_digit-requires
+put_digit-requires t c =
     let k : c.args.number < 2 ^ 64 = search rules in
     let s = decimal_nonempty c.args.number k in search rules
 
-pub put-number-requires : goal.put-number-requires
-put-number-requires t c =
+pub put_number-requires : goal.put_number-requires
+put_number-requires t c =
     let k : c.args.number < 2 ^ 64 = search rules in
     let s = length_step c.args.number c.if-number-ge10.true k in search rules
 
