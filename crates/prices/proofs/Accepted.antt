@@ -1,13 +1,12 @@
 -- What holds of rows after one that is accepted.
-use Rattle.std.proofs.Common.{◌≡◌, ℕ, ◌<◌, Bool, true, false, cond, not, ◌&&◌, ltb, List, [], ◌∷◌, ◌++◌, length, Some, None, Option, sym, refl, ap, ◌∙◌, subst, arith}
+use Rattle.std.proofs.Common.{◌≡◌, ℕ, ◌<◌, Bool, true, false, cond, not, ltb, List, [], ◌∷◌, ◌++◌, length, None, Option, refl, ap, ◌∙◌, arith}
 use Rattle.std.proofs.lemmas.Bool.{and_from, and_parts, cond-true, ltb-true, not-true}
-use Rattle.measures.specs.Codes.{same_code, well_formed}
-use Rattle.measures.specs.declared.code.LocationCode.{LocationCode}
+use Rattle.measures.specs.Codes.{well_formed}
 use Rattle.measures.specs.declared.fault.Cause.{Cause}
 use Rattle.measures.specs.declared.fault.Fault.{Fault}
 use Rattle.prices.specs.Quotes.{AddsPrice, HasPrice}
 use Rattle.prices.specs.Refusals.{unless}
-use Rattle.prices.specs.Rows.{components_in, every, fits_energy, held, one_energy, price_of, row_in_range, row_quote, row_refusal, rows_quote, same_energy}
+use Rattle.prices.specs.Rows.{components_in, every, fits_energy, held, one_energy, price_of, row_in_range, row_refusal, rows_quote, same_energy}
 use Rattle.prices.specs.declared.price.Market.{Market}
 use Rattle.prices.specs.declared.price.Price.{Price}
 use Rattle.prices.specs.declared.row.PriceRow.{PriceRow}

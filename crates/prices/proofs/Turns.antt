@@ -1,5 +1,5 @@
 -- A turn and the end of the loop that works out a group's price.
-use Rattle.std.proofs.Common.{◌≡◌, ℕ, ◌+◌, ◌<◌, ◌≤◌, Bool, true, false, ◌&&◌, List, length, get_or, drop, ℤ, pos, ◌+ℤ◌, ◌*ℤ◌, nat_abs, is_some, Some, None, Option, sym, refl, ap, ◌∙◌, ap₂, arith}
+use Rattle.std.proofs.Common.{◌≡◌, ℕ, ◌+◌, ◌<◌, ◌≤◌, Bool, true, ◌&&◌, List, length, get_or, drop, ℤ, ◌+ℤ◌, ◌*ℤ◌, nat_abs, is_some, Some, None, Option, sym, ap, ◌∙◌, ap₂, arith}
 use lib.IntN.{+ℤ_assoc, +ℤ_idr}
 use Rattle.std.proofs.lemmas.Bool.{and_left, cond-true, cond-false}
 use Rattle.prices.specs.Means.{all_priced, component, congestion_of, energy_of, first_energy, group_price, loss_of, nearest_mean, weighted_mean, weighted_sum}

@@ -2,14 +2,13 @@
 use Rattle.std.specs.Prelude.{◌≡◌, ℕ, ◌+◌, ◌<◌, ◌≤◌, Bool, true, false, cond, ◌&&◌, List, [], ◌∷◌, ◌++◌, length, drop, ℤ, is_some, Some, None, Option, slice_index_or, unsigned_abs, refl}
 use Rattle.std.proofs.Common.{sym, ◌∙◌, ap, ap₂, arith}
 use Rattle.std.proofs.lemmas.List.{at_drop_more, at_drop_all}
-use Rattle.std.proofs.lemmas.Bool.{and_from, and_parts, cond-true, cond-false, le-leb}
+use Rattle.std.proofs.lemmas.Bool.{and_from, and_parts, le-leb}
 use Rattle.measures.specs.Codes.{same_code}
 use Rattle.measures.specs.declared.code.LocationCode.{LocationCode}
 use Rattle.prices.specs.Layers.{laid_over, members_of}
 use Rattle.prices.specs.Means.{all_priced, component, congestion_of, energy_of, first_energy, group_components, group_price, loss_of, weighted_mean, weighted_sum}
 use Rattle.prices.specs.Members.{total_weight, weights_in_range}
 use Rattle.prices.specs.Quotes.{Quote}
-use Rattle.prices.specs.Range.{in_range}
 use Rattle.prices.specs.Rows.{price_of}
 use Rattle.prices.specs.declared.group.Group.{Group}
 use Rattle.prices.specs.declared.member.Member.{Member}

@@ -1,5 +1,5 @@
 -- A layer of groups over a source: what it says, and which group may be formed.
-use Rattle.std.specs.Prelude.{◌≡◌, ℕ, Bool, cond, not, ◌&&◌, List, [], ◌∷◌, ◌++◌, length, take, is_some, Some, None, vec_items, Option, nat_le, nat_lt}
+use Rattle.std.specs.Prelude.{◌≡◌, ℕ, Bool, cond, not, ◌&&◌, List, [], ◌∷◌, ◌++◌, length, take, is_some, None, vec_items, Option, nat_le, nat_lt}
 use Rattle.measures.specs.Codes.{well_formed, same_code}
 use Rattle.measures.specs.declared.code.LocationCode.{LocationCode}
 use Rattle.measures.specs.declared.fault.Cause.TheVariants.{MalformedCode, PricedAlready, GroupOutOfRange, MemberWithoutPrice, SourceFull}

@@ -1,5 +1,5 @@
 -- Members of a group: their weights, and the first at fault.
-use Rattle.std.specs.Prelude.{ℕ, ◌+◌, Bool, true, cond, ◌&&◌, List, [], ◌∷◌, ℤ, pos, Some, None, Option, int_le, unsigned_abs}
+use Rattle.std.specs.Prelude.{ℕ, ◌+◌, Bool, true, cond, ◌&&◌, List, [], ◌∷◌, pos, Some, None, Option, int_le, unsigned_abs}
 use Rattle.prices.specs.declared.member.Member.{Member}
 
 -- from 1 to 1,000

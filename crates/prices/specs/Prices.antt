@@ -1,6 +1,6 @@
 -- What `priced` gives: a price exactly where all three components are in range, with those components.
-use Rattle.std.specs.Prelude.{◌≡◌, ℕ, ◌≤◌, Bool, true, false, ◌&&◌, ℤ, is_some, Some, None, Option, unsigned_abs, refl}
-use Rattle.std.proofs.Common.{sym, ◌∙◌, ap, arith}
+use Rattle.std.specs.Prelude.{◌≡◌, ℕ, ◌≤◌, Bool, true, false, ◌&&◌, ℤ, is_some, Some, unsigned_abs, refl}
+use Rattle.std.proofs.Common.{sym, arith}
 use Rattle.std.proofs.Math.Path.{path_j}
 use Rattle.std.proofs.lemmas.Bool.{leb-true}
 use Rattle.prices.specs.Priced.{tested, priced}

@@ -1,5 +1,5 @@
 -- A sum with one weighted component more: what it is, and that it fits.
-use Rattle.std.specs.Prelude.{◌≡◌, ℕ, suc, ◌+◌, ◌*◌, ◌^◌, ◌<◌, ◌≤◌, ℤ, pos, negsuc, ◌+ℤ◌, ◌*ℤ◌, neg_ℤ, FitsSigned, unsigned_abs, refl}
+use Rattle.std.specs.Prelude.{◌≡◌, suc, ◌+◌, ◌*◌, ◌^◌, ◌<◌, ◌≤◌, ℤ, pos, negsuc, ◌+ℤ◌, ◌*ℤ◌, neg_ℤ, FitsSigned, unsigned_abs, refl}
 use Rattle.std.proofs.Common.{sym, subst, ap₂, ◌∙◌, mul-le-mul, arith, to_z, of_z}
 use borrow.Author.Differences.{abs_is, neg_is}
 use Rattle.std.specs.Int.Signed.{mag}

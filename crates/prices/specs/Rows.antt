@@ -1,5 +1,5 @@
 -- Price rows: what a list of rows says of a code, and which row may be added.
-use Rattle.std.specs.Prelude.{Bool, true, false, cond, not, ◌&&◌, ◌||◌, List, [], ◌∷◌, length, ℤ, pos, negsuc, Some, None, Option, ◌==◌, nat_lt}
+use Rattle.std.specs.Prelude.{Bool, true, false, cond, not, ◌&&◌, ◌||◌, List, [], ◌∷◌, length, ℤ, pos, negsuc, None, Option, ◌==◌, nat_lt}
 use Rattle.measures.specs.Codes.{well_formed, same_code}
 use Rattle.measures.specs.declared.code.LocationCode.{LocationCode}
 use Rattle.measures.specs.declared.fault.Cause.TheVariants.{MalformedCode, ComponentOutOfRange, OtherEnergyComponent, PricedAlready, SourceFull}

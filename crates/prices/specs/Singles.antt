@@ -1,5 +1,5 @@
 -- One price per market for every well-formed code.
-use Rattle.std.specs.Prelude.{◌≡◌, true, cond, ℤ, pos, Some, None, Option}
+use Rattle.std.specs.Prelude.{◌≡◌, true, cond, ℤ, pos, Some, None}
 use Rattle.measures.specs.Codes.{well_formed}
 use Rattle.measures.specs.declared.code.LocationCode.{LocationCode}
 use Rattle.prices.specs.Quotes.{Quote, HasPrice}

@@ -1,12 +1,11 @@
 -- Steps of the sums over a group's members, and how large sums and means can be.
-use Rattle.std.specs.Prelude.{◌≡◌, ℕ, ◌+◌, ◌*◌, ◌/◌, ◌%◌, ◌<◌, ◌≤◌, Bool, true, false, ◌&&◌, List, [], ◌∷◌, length, get_or, drop, ℤ, pos, negsuc, ◌+ℤ◌, ◌*ℤ◌, neg_ℤ, is_some, Some, None, Option, nat_le, slice_index_or, unsigned_abs, refl}
-use Rattle.std.proofs.Common.{sym, ◌∙◌, ap, subst, div-lt_iff_lt-mul, mul-add, mul-le-mul_right, arith}
+use Rattle.std.specs.Prelude.{◌≡◌, ℕ, ◌+◌, ◌*◌, ◌/◌, ◌<◌, ◌≤◌, true, ◌&&◌, List, [], ◌∷◌, length, get_or, drop, ℤ, pos, negsuc, ◌+ℤ◌, ◌*ℤ◌, neg_ℤ, is_some, Some, None, Option, nat_le, slice_index_or, unsigned_abs, refl}
+use Rattle.std.proofs.Common.{sym, ◌∙◌, div-lt_iff_lt-mul, mul-add, mul-le-mul_right, arith}
 use borrow.Author.Differences.{abs_is, neg_is}
 use Rattle.std.proofs.lemmas.List.{at_drop_more, at_drop_all}
-use Rattle.std.proofs.lemmas.Int.{ints}
-use Rattle.std.proofs.lemmas.Bool.{and_parts, and_left, and_right, leb-true}
+use Rattle.std.proofs.lemmas.Bool.{and_parts, leb-true}
 use Rattle.measures.specs.Signs.{signed}
-use Rattle.prices.specs.Means.{all_priced, component, congestion_of, energy_of, first_energy, loss_of, nearest_mean, weighted_mean, weighted_sum}
+use Rattle.prices.specs.Means.{all_priced, component, energy_of, first_energy, nearest_mean, weighted_sum}
 use Rattle.prices.specs.Members.{total_weight, weight_in_range, weights_in_range}
 use Rattle.prices.specs.Quotes.{Quote}
 use Rattle.prices.specs.declared.member.Member.{Member}

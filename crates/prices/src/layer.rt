@@ -35,7 +35,7 @@ fn mean_price<S: PriceSource>(below: &S, members: &[Member], market: Market) -> 
     requires some { 1 ≤ length members.now }
     requires few { length members.now ≤ 8 }
     requires weighed { weights_in_range members.now ≡ true }
-    ensures { result ≡ group_price (quote below.now) market members.now }
+    ensures { result ≡ group_price (S.quote below.now) market members.now }
 {
     let first = below.price(&members[0].code, market)?;
     let mut sums = Sums {
@@ -61,7 +61,7 @@ fn look_up<S: PriceSource>(
     code: &LocationCode,
     market: Market,
 ) -> Option<Price>
-    ensures { result ≡ laid_over (quote below.now) code.now market (quote below.now code.now market) groups.now }
+    ensures { result ≡ laid_over (S.quote below.now) code.now market (S.quote below.now code.now market) groups.now }
 {
     let mut said = below.price(code, market);
     for group in groups {
@@ -79,7 +79,7 @@ fn quote_over<S: PriceSource>(
     code: &LocationCode,
     market: Market,
 ) -> Option<Price>
-    ensures { result ≡ layer_quote (quote below.now) groups.now code.now market }
+    ensures { result ≡ layer_quote (S.quote below.now) groups.now code.now market }
 {
     if code.is_well_formed() {
         look_up(below, groups, code, market)
@@ -102,7 +102,7 @@ fn first_out_of_range(members: &[Member]) -> Option<usize>
 
 // The first member, from 1, with no price below.
 fn first_without_price<S: PriceSource>(below: &S, members: &[Member]) -> Option<usize>
-    ensures { result ≡ first_failing (has_price (quote below.now)) 1 members.now }
+    ensures { result ≡ first_failing (has_price (S.quote below.now)) 1 members.now }
 {
     for (i, member) in members.iter().enumerate() {
         if below.price(&member.code, Market::DayAhead).is_none() {
@@ -119,7 +119,7 @@ fn refusal<S: PriceSource>(
     code: &LocationCode,
     members: &[Member],
 ) -> Option<Fault>
-    ensures { result ≡ form_refusal (quote below.now) groups.now code.now members.now }
+    ensures { result ≡ form_refusal (S.quote below.now) groups.now code.now members.now }
 {
     if !code.is_well_formed() {
         return Some(price_fault(Cause::MalformedCode, 0));
@@ -147,7 +147,7 @@ impl<S: PriceSource> GroupLayer<S> {
     // The groups of the table over the source. With none yet, every code has what is said below.
     pub fn over(below: S, groups: GroupTable) -> GroupLayer<S>
         ensures parts { (result.below ≡ below) × (result.groups ≡ groups) }
-        ensures says_the_same { groups_of groups ≡ [] → (c : LocationCode) (m : Market) → layer_quote (quote result.below) (groups_of result.groups) c m ≡ quote below c m }
+        ensures says_the_same { groups_of groups ≡ [] → (c : LocationCode) (m : Market) → layer_quote (S.quote result.below) (groups_of result.groups) c m ≡ S.quote below c m }
     {
         GroupLayer { below, groups }
     }
@@ -158,11 +158,11 @@ impl<S: PriceSource> GroupLayer<S> {
     // of its first member and the weighted means of its members' congestion and loss, and no other code another price.
     pub fn form(&mut self, code: LocationCode, members: &[Member]) -> Result<(), Fault>
         ensures { elim result [
-          | Ok _ ↦ (form_refusal (quote self.old.below) (groups_of self.old.groups) code members.now ≡ None)
+          | Ok _ ↦ (form_refusal (S.quote self.old.below) (groups_of self.old.groups) code members.now ≡ None)
               × FormedLast (groups_of self.old.groups) (groups_of self.new.groups) code members.now
               × (self.new.below ≡ self.old.below)
-              × AddsPrice (layer_quote (quote self.old.below) (groups_of self.old.groups)) (layer_quote (quote self.new.below) (groups_of self.new.groups)) code (group_components (quote self.old.below) members.now)
-          | Err f ↦ (form_refusal (quote self.old.below) (groups_of self.old.groups) code members.now ≡ Some f) × (self.new ≡ self.old)
+              × AddsPrice (layer_quote (S.quote self.old.below) (groups_of self.old.groups)) (layer_quote (S.quote self.new.below) (groups_of self.new.groups)) code (group_components (S.quote self.old.below) members.now)
+          | Err f ↦ (form_refusal (S.quote self.old.below) (groups_of self.old.groups) code members.now ≡ Some f) × (self.new ≡ self.old)
         ] }
     {
         if let Some(why) = refusal(&self.below, self.groups.as_slice(), &code, members) {

@@ -60,7 +60,7 @@ impl PriceTable {
 impl PriceSource for PriceTable {
     ghost quote = { table_quote };
 
-    ghost malformed = { first_of (Prim.search rules, Prim.grind (arith, Self.row.coded.inj)) };
+    ghost malformed = { Prim.search rules };
 
     ghost both = { λ s c. guard_both (well_formed c) _ _ (found_both s.rows.items c s.in_range) };
 

@@ -1,4 +1,4 @@
-use Rattle.std.proofs.Common.{Bool, sym, ◌∙◌}
+use Rattle.std.proofs.Common.{sym, ◌∙◌}
 use Rattle.prices.specs.Members.{weight_in_range}
 use Rattle.prices.proofs.Failing.{failing_end, failing_hit, failing_miss}
 use Rattle.prices.proofs.layer.first_out_of_range.Goals as goal

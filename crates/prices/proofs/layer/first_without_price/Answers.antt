@@ -1,4 +1,4 @@
-use Rattle.std.proofs.Common.{◌≡◌, is_some, sym, ap, ◌∙◌}
+use Rattle.std.proofs.Common.{is_some, sym, ap, ◌∙◌}
 use Rattle.prices.specs.Layers.{has_price}
 use Rattle.prices.proofs.Failing.{failing_end, failing_hit, failing_miss}
 use Rattle.prices.proofs.layer.first_without_price.Goals as goal

@@ -1,14 +1,13 @@
-use Rattle.std.proofs.Common.{◌≡◌, ℕ, ◌+◌, ◌≤◌, true, List, length, take, drop, Option, sym, ap, ◌∙◌, subst, arith, length-take}
+use Rattle.std.proofs.Common.{◌≡◌, ◌+◌, ◌≤◌, List, length, drop, Option, sym, ap, ◌∙◌, arith, length-take}
 use Rattle.std.proofs.lemmas.Bool.{cond-false, cond-true}
 use Rattle.prices.specs.Layers.{laid_over, members_of}
 use Rattle.prices.specs.Means.{group_price}
 use Rattle.prices.specs.Members.{weights_in_range}
 use Rattle.prices.specs.declared.group.Group.{Group}
-use Rattle.prices.specs.declared.member.Member.{Member}
 use Rattle.prices.specs.declared.price.Price.{Price}
 use Rattle.prices.specs.Layered.{laid_end, laid_more, says}
 use Rattle.prices.proofs.layer.look_up.Goals as goal
-use Rattle.prices.proofs.layer.look_up.Goals.{then_same, else_same}
+use Rattle.prices.proofs.layer.look_up.Goals.{then-same, else-same}
 
 at_most_eight : (g : Group) → length (members_of g) ≤ 8
 at_most_eight g = let e = length-take g.count g.members in let h = g.few in omega arith
@@ -27,14 +26,14 @@ mean_price-said-requires g c =
 pub loop-group-preserved : goal.loop-group-preserved
 loop-group-preserved g c =
     let q = g.S.PriceSource.quote c.args.below.now in
-    let rest : List Group = drop (c.loop-group.group_index + 1) c.args.groups.now in
-    let after = sym (laid_more q c.args.code.now c.args.market c.loop-group.said c.args.groups.now c.loop-group.group_index c.group-item.result c.loop-group-test.true c.group-item.is) ∙ c.loop-group.invariant in
+    let rest : List Group = drop (c.loop-group.group-index + 1) c.args.groups.now in
+    let after = sym (laid_more q c.args.code.now c.args.market c.loop-group.said c.args.groups.now c.loop-group.group-index c.group-item.result c.loop-group-test.true c.group-item.is) ∙ c.loop-group.invariant in
     let said : c.if-same.said ≡ says q c.args.code.now c.args.market c.loop-group.said c.group-item.result =
     elim c.if-same.branch [
-      | then_same w ↦ w.said-is ∙ (w.mean_price-said.ensures ∙ (ap (group_price q c.args.market) w.members.ensures ∙ sym (cond-true _ _ _ (sym w.if-same.ensures))))
-      | else_same w ↦ w.said-is ∙ sym (cond-false _ _ _ (sym w.if-same.ensures))
+      | then-same w ↦ w.said-is ∙ (w.mean_price-said.ensures ∙ (ap (group_price q c.args.market) w.members.ensures ∙ sym (cond-true _ _ _ (sym w.if-same.ensures))))
+      | else-same w ↦ w.said-is ∙ sym (cond-false _ _ _ (sym w.if-same.ensures))
     ] in
     ap (λ (o : Option Price). laid_over q c.args.code.now c.args.market o rest) said ∙ after
 
 pub returns : goal.returns
-returns g c = sym (laid_end (g.S.PriceSource.quote c.args.below.now) c.args.code.now c.args.market c.loop-group.said c.args.groups.now c.loop-group.group_index c.loop-group-test.false) ∙ c.loop-group.invariant
+returns g c = sym (laid_end (g.S.PriceSource.quote c.args.below.now) c.args.code.now c.args.market c.loop-group.said c.args.groups.now c.loop-group.group-index c.loop-group-test.false) ∙ c.loop-group.invariant

@@ -1,7 +1,7 @@
-use Rattle.std.proofs.Common.{◌≡◌, ℕ, ◌+◌, ◌*◌, ◌<◌, ◌≤◌, true, List, [], length, get_or, drop, ℤ, pos, nat_abs, sym, refl, ap, ◌∙◌, subst, arith, w64, SFits, to_z, of_z, rules}
+use Rattle.std.proofs.Common.{◌≡◌, ℕ, ◌<◌, ◌≤◌, true, List, [], length, get_or, drop, ℤ, pos, nat_abs, sym, refl, ap, ◌∙◌, subst, arith, w64, SFits, rules}
 use Rattle.std.proofs.lemmas.Int.{to_z-of_z}
 use Rattle.prices.specs.Means.{component, congestion_of, energy_of, loss_of, nearest_mean}
-use Rattle.prices.specs.Members.{total_weight, weights_in_range}
+use Rattle.prices.specs.Members.{weights_in_range}
 use Rattle.prices.specs.declared.member.Member.{Member}
 use Rattle.prices.specs.Products.{small_through}
 use Rattle.prices.specs.Summed.{priced_end, total_end, total_positive, weight_bounds, weights_more}

@@ -1,4 +1,4 @@
-use Rattle.std.proofs.Common.{◌≡◌, ℕ, ◌+◌, ◌≤◌, ℤ, nat_abs, sym, subst}
+use Rattle.std.proofs.Common.{◌+◌, ◌≤◌, ℤ, nat_abs, sym, subst}
 use Rattle.prices.specs.Products.{product_fits, sum_bound, sum_fits, sum_value}
 use Rattle.prices.proofs.sums.with_component.Goals as goal
 

@@ -1,4 +1,4 @@
-use Rattle.std.proofs.Common.{◌≡◌, ◌≤◌, length, take}
+use Rattle.std.proofs.Common.{◌≡◌, length, take}
 use Rattle.prices.proofs.group.make.in_eight_places.Given as goal
 
 abbrev pub invariant-loop-i : goal.invariant-loop-i

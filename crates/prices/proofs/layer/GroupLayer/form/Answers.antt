@@ -1,4 +1,4 @@
-use Rattle.std.proofs.Common.{◌≡◌, ◌<◌, List, length, None, sym, refl, subst, arith}
+use Rattle.std.proofs.Common.{◌≡◌, ◌<◌, List, length, None, sym, refl, subst}
 use Rattle.prices.specs.Layers.{form_refusal, FormedLast, groups_of}
 use Rattle.prices.specs.declared.group.Group.{Group}
 use Rattle.prices.proofs.Formed.{accepted_group, group_adds}

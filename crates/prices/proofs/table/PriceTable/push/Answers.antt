@@ -16,7 +16,7 @@ invariant_of-self c =
     subst (λ (xs : List PriceRow). every row_in_range xs ≡ true) (sym c.push_reserved.ensures.items) (every_push row_in_range rs c.args.row c.args.self.now.in_range row.ranged) in
     let one : one_energy (vec_items c.push_reserved.new.self) ≡ true =
     subst (λ (xs : List PriceRow). one_energy xs ≡ true) (sym c.push_reserved.ensures.items) (energy_push rs c.args.row c.args.self.now.one_energy row.fits) in
-    (search rules, (search rules, (ranged, (one, tt))))
+    record { few = search rules; room = search rules; in_range = ranged; one_energy = one }
 
 pub returns : goal.returns
 returns c =
