@@ -1,5 +1,5 @@
 -- From the answer to a list of units to the answer for a shared line.
-use Rattle.std.proofs.Common.{◌≡◌, ℕ, ◌-◌, ◌<◌, ◌≤◌, Bool, true, false, cond, ◌&&◌, leb, List, map, length, take, ℤ, Ok, sym, refl, ap, ◌∙◌, subst, arith}
+use Rattle.std.proofs.Common.{◌≡◌, ℕ, ◌-◌, ◌<◌, true, false, List, map, length, take, ℤ, Ok, sym, refl, ap, ◌∙◌, subst, arith}
 use native.Mathlib.Nat.{sub-zero}
 use Rattle.std.proofs.lemmas.Bool.Decides.{nat_tests}
 use Rattle.measures.specs.declared.amounts.Cents.{Cents}
@@ -7,7 +7,7 @@ use Rattle.measures.specs.Faults.{fault, on_charge_line}
 use Rattle.measures.specs.declared.fault.Cause.TheVariants.{SharingLimits}
 use Rattle.measures.specs.declared.fault.Layer.TheVariants.{Share}
 use Rattle.rules.specs.Shareable.{shareable_facts}
-use Rattle.rules.specs.Sharing.{amounts, counted, shareable, sharing_fault, Fair, Shared}
+use Rattle.rules.specs.Sharing.{amounts, counted, shareable, Fair, Shared}
 use Rattle.lines.specs.Shared.{line_fault, LineShared}
 
 -- more than 64 weights are not counted

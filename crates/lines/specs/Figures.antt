@@ -1,5 +1,5 @@
 -- The figures of a participant's month.
-use Rattle.std.specs.Prelude.{ℕ, Bool, ◌&&◌, ℤ, nat_lt, unsigned_abs}
+use Rattle.std.specs.Prelude.{Bool, ◌&&◌, ℤ, nat_lt, unsigned_abs}
 
 -- a figure has at most ten digits
 abbrev pub ten_digits : ℤ → Bool

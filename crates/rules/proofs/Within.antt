@@ -1,10 +1,10 @@
 -- Fair shares of a pool that is not below 0 lie between 0 and the pool.
-use Rattle.std.proofs.Common.{◌≡◌, ℕ, suc, ◌+◌, ◌*◌, ◌<◌, ◌≤◌, true, ◌⊎◌, List, length, get_or, ℤ, pos, negsuc, ◌-ℤ◌, ◌*ℤ◌, nat_abs, ◌≤ℤ◌, sum, subst, inl, inr, ⊎_elim, mul-le-mul_right, add-mul, mul-le-mul_left, arith}
+use Rattle.std.proofs.Common.{◌≡◌, ℕ, ◌+◌, ◌*◌, ◌<◌, ◌≤◌, true, List, length, get_or, ℤ, pos, negsuc, ◌*ℤ◌, nat_abs, ◌≤ℤ◌, sum, subst, ⊎_elim, mul-le-mul_right, add-mul, mul-le-mul_left, arith}
 use borrow.Author.Differences.{ints}
 use Rattle.std.proofs.lemmas.List.Sums.{get_or-le-sum_by}
 use Rattle.std.proofs.lemmas.Bool.{cases_lt}
 use Rattle.rules.specs.Rounding.{Near}
-use Rattle.rules.specs.Sharing.{Fair, Within, shareable, sizes, total}
+use Rattle.rules.specs.Sharing.{Fair, Within, shareable, sizes}
 use Rattle.rules.specs.Shareable.{shareable_facts}
 use Rattle.rules.specs.Weights.{length_sizes, total_is, weight_is}
 

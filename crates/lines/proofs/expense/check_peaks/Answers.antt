@@ -1,4 +1,4 @@
-use Rattle.std.proofs.Common.{◌≡◌, ◌≢◌, map, length, ℤ, arith, rules}
+use Rattle.std.proofs.Common.{◌≢◌, map, length, arith, rules}
 use Rattle.std.proofs.lemmas.List.{length-map}
 use Rattle.measures.specs.declared.amounts.Kilowatts.{Kilowatts}
 use Rattle.lines.proofs.Peaks.{peaks_other, peaks_alike}

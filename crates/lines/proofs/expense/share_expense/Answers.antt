@@ -1,4 +1,4 @@
-use Rattle.std.proofs.Common.{map, length, ℤ, sym, rules}
+use Rattle.std.proofs.Common.{map, length, sym, rules}
 use Rattle.measures.specs.declared.amounts.Kilowatts.{Kilowatts}
 use Rattle.measures.specs.declared.amounts.MegawattHours.{MegawattHours}
 use Rattle.lines.proofs.Peaks.{by_units, refused_peaks, refused_range, expense_done}

@@ -1,5 +1,5 @@
-use Rattle.std.proofs.Common.{◌≡◌, ℕ, ◌+◌, ◌<◌, ◌≤◌, List, [], ◌∷◌, ◌++◌, map, length, get_or, take, set, ℤ, sym, ap, ◌∙◌, subst, arith, w64, SFits, rules}
-use Rattle.std.proofs.lemmas.List.{length-set, length-map, map_more, take-map, take_more_set, take_all}
+use Rattle.std.proofs.Common.{◌∙◌, arith, w64, SFits, rules}
+use Rattle.std.proofs.lemmas.List.{length-set}
 use Rattle.std.proofs.lemmas.Int.{to_z-of_z}
 use Rattle.lines.proofs.Written.{put_next, all_put}
 use Rattle.lines.proofs.line.units_of.Goals as goal
