@@ -12,7 +12,7 @@ use Rattle.postings.specs.Openings.{participant_count}
 use Rattle.postings.specs.declared.bilateral.Bilateral.{Bilateral}
 use Rattle.postings.specs.declared.opening.Opening.{Opening}
 use Rattle.postings.specs.declared.record.Record.{Record}
-use Rattle.obligations.specs.Charges.{from, participants, Line, component_charge, all_lines, charge, weight, anybody_weighs, bill, fund}
+use Rattle.obligations.specs.Charges.{participants, Line, component_charge, all_lines, charge, weight, anybody_weighs, fund}
 use Rattle.obligations.specs.Comparisons.{OneMore, moved_to, Moved}
 use Rattle.obligations.specs.Exact.{Fraction, WithinCents, exact_bill, congestion_value, whole}
 use Rattle.obligations.specs.Limits.{Between, BilateralKept}

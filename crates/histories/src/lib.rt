@@ -42,7 +42,7 @@ pub fn within_the_sharing_limits()
 
 // The worked examples of rounding, sharing and means, and the worked hours, hold together of the definitions.
 pub fn worked_hours()
-    ensures { (WorkedExamples) × (WorkedHours) }
+    ensures { WorkedExamples × WorkedHours }
 {
     worked_examples();
 }

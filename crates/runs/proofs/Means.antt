@@ -1,5 +1,5 @@
 -- The worked means.
-use Rattle.std.proofs.Common.{◌≡◌, ℤ, pos, refl}
+use Rattle.std.proofs.Common.{refl}
 use Rattle.runs.specs.Examples.{MeanExamples}
 
 pub means_hold : MeanExamples

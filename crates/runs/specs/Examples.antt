@@ -1,5 +1,5 @@
 -- Worked examples of rounding, sharing and weighted means.
-use Rattle.std.specs.Prelude.{◌≡◌, List, [], ◌∷◌, ℤ, pos, negsuc, Some}
+use Rattle.std.specs.Prelude.{◌≡◌, [], ◌∷◌, ℤ, pos, negsuc, Some}
 use Rattle.measures.specs.declared.code.LocationCode.{LocationCode}
 use Rattle.rules.specs.Rounding.{half_away, half_even, toward_zero}
 use Rattle.rules.specs.Sharing.{largest_remainder, running}
