@@ -57,11 +57,12 @@ fn half_by_volume_and_half_by_peak(rt: HostRuntime) -> Result<(), Fail> {
 // Checks that an expense is not shared over three places, and that both lists are left as they were.
 fn check_not_shared(
     rt: &impl Abort,
+    case: &str,
     expense: i64,
     volumes: &[MegawattHours],
     peaks: &[Kilowatts],
     expected: Refusal,
-) -> Result<(), Fail> {
+) {
     let mut by_volume = [UNTOUCHED; 3];
     let mut by_peak = [UNTOUCHED; 3];
     let answer = share_expense(
@@ -72,16 +73,17 @@ fn check_not_shared(
         &mut by_volume,
         &mut by_peak,
     );
-    check_refused(rt, answer, expected)?;
+    check_refused(rt, case, answer, expected);
     assert_eq!(rt;
         [by_volume[0].0, by_volume[1].0, by_volume[2].0],
-        [UNTOUCHED.0; 3]
+        [UNTOUCHED.0; 3],
+        "{case}"
     );
     assert_eq!(rt;
         [by_peak[0].0, by_peak[1].0, by_peak[2].0],
-        [UNTOUCHED.0; 3]
+        [UNTOUCHED.0; 3],
+        "{case}"
     );
-    Ok(())
 }
 
 // The refusal of a line's weights.
@@ -90,7 +92,7 @@ fn line_refusal(charge_line: u8, place: usize) -> Refusal {
 }
 
 #[test]
-fn a_refused_expense_writes_neither_list(rt: HostRuntime) -> Result<(), Fail> {
+fn a_refused_expense_writes_neither_list(rt: HostRuntime) {
     let negative_volumes = [
         MegawattHours(1_500),
         MegawattHours(-800),
@@ -98,40 +100,45 @@ fn a_refused_expense_writes_neither_list(rt: HostRuntime) -> Result<(), Fail> {
     ];
     let negative_peaks = [Kilowatts(570), Kilowatts(300), Kilowatts(-130)];
     let out_of_range = Refusal::new(14, Layer::Share, 0);
-    check_not_shared(&rt, 4_000_000_001, &VOLUMES, &PEAKS, out_of_range).note(
-        "4,000,000,001 cents",
-    )?;
-    check_not_shared(&rt, -1, &VOLUMES, &PEAKS, out_of_range).note("-1 cent")?;
     check_not_shared(
         &rt,
+        "4,000,000,001 cents",
+        4_000_000_001,
+        &VOLUMES,
+        &PEAKS,
+        out_of_range,
+    );
+    check_not_shared(&rt, "-1 cent", -1, &VOLUMES, &PEAKS, out_of_range);
+    check_not_shared(
+        &rt,
+        "negative peak",
         1_000_001,
         &VOLUMES,
         &negative_peaks,
         line_refusal(22, 3),
-    )
-    .note("negative peak")?;
+    );
     check_not_shared(
         &rt,
+        "negative volume",
         1_000_001,
         &negative_volumes,
         &negative_peaks,
         line_refusal(21, 2),
-    )
-    .note("negative volume")?;
+    );
     check_not_shared(
         &rt,
+        "two peaks",
         1_000_001,
         &VOLUMES,
         &[Kilowatts(570), Kilowatts(300)],
         line_refusal(22, 0),
-    )
-    .note("two peaks")?;
+    );
     check_not_shared(
         &rt,
+        "no peaks",
         1_000_001,
         &VOLUMES,
         &[Kilowatts(0); 3],
         line_refusal(22, 0),
-    )
-    .note("no peaks")
+    );
 }

@@ -70,13 +70,13 @@ fn bills_and_refusals_are_printed_byte_for_byte(rt: HostRuntime) -> Result<(), F
 }
 
 // Checks that a file is not billed.
-fn check_not_billed(
-    rt: &impl Abort,
-    heap: Global,
-    input: &[u8],
-    expected: Refusal,
-) -> Result<(), Fail> {
-    check_refused(rt, bill_of_file(heap, &LargestRemainder, input), expected)
+fn check_not_billed(rt: &impl Abort, case: &str, heap: Global, input: &[u8], expected: Refusal) {
+    check_refused(
+        rt,
+        case,
+        bill_of_file(heap, &LargestRemainder, input),
+        expected,
+    );
 }
 
 // The refusal of a line against the layout; line 0 stands for the whole file.
@@ -87,31 +87,68 @@ fn layout_refusal(text_line: usize) -> Refusal {
 #[test]
 fn a_file_against_the_layout_names_its_first_wrong_line(rt: HostRuntime) -> Result<(), Fail> {
     let heap = rt.alloc();
-    check_not_billed(&rt, heap, b"", layout_refusal(1)).note("empty")?;
-    check_not_billed(&rt, heap, b"EX        0101\n", layout_refusal(1)).note("leading zero")?;
-    check_not_billed(&rt, heap, WRONG_SECOND_LINE, layout_refusal(2)).note("participant 2 first")?;
-    check_not_billed(&rt, heap, UNTERMINATED, layout_refusal(3)).note("no line feed at the end")?;
+    check_not_billed(&rt, "empty", heap, b"", layout_refusal(1));
+    check_not_billed(
+        &rt,
+        "leading zero",
+        heap,
+        b"EX        0101\n",
+        layout_refusal(1),
+    );
+    check_not_billed(
+        &rt,
+        "participant 2 first",
+        heap,
+        WRONG_SECOND_LINE,
+        layout_refusal(2),
+    );
+    check_not_billed(
+        &rt,
+        "no line feed at the end",
+        heap,
+        UNTERMINATED,
+        layout_refusal(3),
+    );
     let longest = vec![in heap; b' '; 65_536]?;
-    check_not_billed(&rt, heap, longest.as_slice(), layout_refusal(1)).note("65,536 bytes")?;
+    check_not_billed(
+        &rt,
+        "65,536 bytes",
+        heap,
+        longest.as_slice(),
+        layout_refusal(1),
+    );
     let too_long = vec![in heap; b' '; 65_537]?;
-    check_not_billed(&rt, heap, too_long.as_slice(), layout_refusal(0)).note("65,537 bytes")
+    check_not_billed(
+        &rt,
+        "65,537 bytes",
+        heap,
+        too_long.as_slice(),
+        layout_refusal(0),
+    );
+    Ok(())
 }
 
 #[test]
-fn a_month_that_is_not_billed_names_the_line_at_fault(rt: HostRuntime) -> Result<(), Fail> {
+fn a_month_that_is_not_billed_names_the_line_at_fault(rt: HostRuntime) {
     let heap = rt.alloc();
     let volume = Refusal::new(13, Layer::Share, 2)
         .on_charge_line(21)
         .on_text_line(3);
-    check_not_billed(&rt, heap, NEGATIVE_VOLUME, volume)?;
+    check_not_billed(&rt, "negative volume", heap, NEGATIVE_VOLUME, volume);
     let peak = Refusal::new(13, Layer::Share, 1)
         .on_charge_line(22)
         .on_text_line(2);
-    check_not_billed(&rt, heap, NEGATIVE_PEAK, peak)?;
+    check_not_billed(&rt, "negative peak", heap, NEGATIVE_PEAK, peak);
     let expense = Refusal::new(14, Layer::Share, 0).on_text_line(1);
-    check_not_billed(&rt, heap, LARGE_EXPENSE, expense)?;
+    check_not_billed(&rt, "large expense", heap, LARGE_EXPENSE, expense);
     let participants = Refusal::new(13, Layer::Share, 0)
         .on_charge_line(21)
         .on_text_line(1);
-    check_not_billed(&rt, heap, b"EX         101\n", participants)
+    check_not_billed(
+        &rt,
+        "no participants",
+        heap,
+        b"EX         101\n",
+        participants,
+    );
 }

@@ -59,24 +59,30 @@ fn a_group_has_the_weighted_means_of_its_members(rt: HostRuntime) -> Result<(), 
 // Checks that a group is refused, and that the layer is left as it was.
 fn check_not_formed(
     rt: &impl Abort,
+    case: &str,
     layer: &mut GroupLayer<PriceTable>,
     group: LocationCode,
     members: &[Member],
     number: u8,
     place: usize,
-) -> Result<(), Fail> {
+) {
     let answer = layer.form(group, members);
-    check_refused(rt, answer, Refusal::new(number, Layer::Price, place))?;
+    check_refused(rt, case, answer, Refusal::new(number, Layer::Price, place));
     assert_eq!(rt;
         asked(layer, &code(b"EVEN    "), Market::DayAhead),
-        Some((3_000, 153, -23))
+        Some((3_000, 153, -23)),
+        "{case}"
     );
     assert_eq!(rt;
         asked(layer, &code(b"EAST    "), Market::DayAhead),
-        Some((3_000, 100, -20))
+        Some((3_000, 100, -20)),
+        "{case}"
     );
-    assert_eq!(rt; asked(layer, &code(b"NEW     "), Market::DayAhead), None);
-    Ok(())
+    assert_eq!(rt;
+        asked(layer, &code(b"NEW     "), Market::DayAhead),
+        None,
+        "{case}"
+    );
 }
 
 #[test]
@@ -84,30 +90,65 @@ fn a_refused_group_leaves_the_layer_as_it_was(rt: HostRuntime) -> Result<(), Fai
     let new = code(b"NEW     ");
     let mut layer = GroupLayer::over(east_and_west(rt.alloc())?, GroupTable::new(rt.alloc())?);
     layer.form(code(b"EVEN    "), &both(1, 1))?;
-    check_not_formed(&rt, &mut layer, code(b"NEW    ."), &both(1, 1), 4, 0).note("malformed code")?;
-    check_not_formed(&rt, &mut layer, code(b"EAST    "), &both(1, 1), 10, 0).note("priced below")?;
-    check_not_formed(&rt, &mut layer, code(b"EVEN    "), &both(1, 1), 10, 0).note(
+    check_not_formed(
+        &rt,
+        "malformed code",
+        &mut layer,
+        code(b"NEW    ."),
+        &both(1, 1),
+        4,
+        0,
+    );
+    check_not_formed(
+        &rt,
+        "priced below",
+        &mut layer,
+        code(b"EAST    "),
+        &both(1, 1),
+        10,
+        0,
+    );
+    check_not_formed(
+        &rt,
         "priced by a group",
-    )?;
-    check_not_formed(&rt, &mut layer, new, &[], 11, 0).note("no members")?;
-    check_not_formed(&rt, &mut layer, new, &[member(b"EAST    ", 1); 9], 11, 0).note(
+        &mut layer,
+        code(b"EVEN    "),
+        &both(1, 1),
+        10,
+        0,
+    );
+    check_not_formed(&rt, "no members", &mut layer, new, &[], 11, 0);
+    check_not_formed(
+        &rt,
         "nine members",
-    )?;
-    check_not_formed(&rt, &mut layer, new, &both(1, 0), 11, 2).note("weight 0")?;
-    check_not_formed(&rt, &mut layer, new, &both(1_001, 0), 11, 1).note("weight 1,001")?;
-    check_not_formed(&rt, &mut layer, new, &[member(b"NORTH   ", 1); 2], 12, 1).note(
+        &mut layer,
+        new,
+        &[member(b"EAST    ", 1); 9],
+        11,
+        0,
+    );
+    check_not_formed(&rt, "weight 0", &mut layer, new, &both(1, 0), 11, 2);
+    check_not_formed(&rt, "weight 1,001", &mut layer, new, &both(1_001, 0), 11, 1);
+    check_not_formed(
+        &rt,
         "member without price",
-    )?;
+        &mut layer,
+        new,
+        &[member(b"NORTH   ", 1); 2],
+        12,
+        1,
+    );
     // a member is priced by the source below, not by a group beside it
     check_not_formed(
         &rt,
+        "group beside",
         &mut layer,
         new,
         &[member(b"EAST    ", 1), member(b"EVEN    ", 1)],
         12,
         2,
-    )
-    .note("group beside")
+    );
+    Ok(())
 }
 
 #[test]
@@ -118,9 +159,10 @@ fn a_layer_holds_eight_groups(rt: HostRuntime) -> Result<(), Fail> {
     }
     check_refused(
         &rt,
+        "a ninth group",
         layer.form(numbered(b'G', 8), &both(1, 1)),
         Refusal::new(24, Layer::Price, 0),
-    )?;
+    );
     assert_eq!(rt;
         asked(&layer, &numbered(b'G', 7), Market::RealTime),
         Some((3_500, 5, 6))
@@ -148,9 +190,11 @@ fn a_layer_over_a_layer_prices_groups_of_groups(rt: HostRuntime) -> Result<(), F
     );
     check_refused(
         &rt,
+        "priced by the layer below",
         upper.form(code(b"EVEN    "), &both(1, 1)),
         Refusal::new(10, Layer::Price, 0),
-    )
+    );
+    Ok(())
 }
 
 #[test]

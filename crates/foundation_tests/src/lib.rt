@@ -10,7 +10,7 @@ mod fields;
 #[cfg(test)]
 mod groups;
 #[cfg(test)]
-mod postings;
+mod postings_and_phases;
 #[cfg(test)]
 mod price_sources;
 #[cfg(test)]

@@ -1,7 +1,6 @@
 // What a test expects of a refused call.
 use measures::fault::{Fault, Layer};
 use std::process::Abort;
-use std::test::Fail;
 
 // Everything that a fault says, its cause by number.
 #[derive(Clone, Copy, PartialEq, Debug)]
@@ -36,13 +35,17 @@ impl Refusal {
         Refusal { text_line, ..self }
     }
 
-    fn of(fault: Fault) -> Refusal {
-        Refusal {
-            number: fault.cause.number(),
-            layer: fault.layer,
-            place: fault.place,
-            charge_line: fault.charge_line,
-            text_line: fault.text_line,
+    // What the fault of a refused call says; nothing of an accepted one.
+    pub fn of<T: Drop>(answer: Result<T, Fault>) -> Option<Refusal> {
+        match answer {
+            Ok(_) => None,
+            Err(fault) => Some(Refusal {
+                number: fault.cause.number(),
+                layer: fault.layer,
+                place: fault.place,
+                charge_line: fault.charge_line,
+                text_line: fault.text_line,
+            }),
         }
     }
 }
@@ -50,14 +53,9 @@ impl Refusal {
 // Checks that a call was refused, and all that its fault says.
 pub fn check_refused<T: Drop>(
     rt: &impl Abort,
+    case: &str,
     answer: Result<T, Fault>,
     expected: Refusal,
-) -> Result<(), Fail> {
-    match answer {
-        Ok(_) => Err(Fail::new("accepted")),
-        Err(fault) => {
-            assert_eq!(rt; Refusal::of(fault), expected);
-            Ok(())
-        },
-    }
+) {
+    assert_eq!(rt; Refusal::of(answer), Some(expected), "{case}");
 }

@@ -1,5 +1,5 @@
 // A pool of cents divided by weights.
-use crate::refusals::{Refusal, check_refused};
+use crate::refusals::Refusal;
 use measures::amounts::Cents;
 use measures::fault::Layer;
 use rules::sharing::{LargestRemainder, Running, Sharing};
@@ -53,44 +53,108 @@ fn each_rule_shares(rt: HostRuntime) -> Result<(), Fail> {
 // Checks that a pool is not shared, and that the list to write to is left as it was.
 fn check_not_shared<H: Sharing>(
     rt: &impl Abort,
+    name: &str,
+    case: &str,
     rule: &H,
     pool: i64,
     weights: &[i64],
     to: &mut [Cents],
     place: usize,
-) -> Result<(), Fail> {
+) {
     let answer = rule.share(Cents(pool), weights, to);
-    check_refused(rt, answer, Refusal::new(13, Layer::Share, place))?;
+    let expected = Refusal::new(13, Layer::Share, place);
+    assert_eq!(rt; Refusal::of(answer), Some(expected), "{name}: {case}");
     for amount in to.iter() {
-        assert_eq!(rt; amount.0, UNTOUCHED.0);
+        assert_eq!(rt; amount.0, UNTOUCHED.0, "{name}: {case}");
     }
-    Ok(())
 }
 
 // Every refusal of a sharing rule.
-fn check_limits<H: Sharing>(rt: &impl Abort, rule: &H) -> Result<(), Fail> {
-    check_not_shared(rt, rule, 100, &[1, -1, 1], &mut [UNTOUCHED; 3], 2).note("negative weight")?;
-    check_not_shared(rt, rule, 100, &[], &mut [UNTOUCHED; 0], 0).note("no weights")?;
-    check_not_shared(rt, rule, 100, &[1; 65], &mut [UNTOUCHED; 65], 0).note("65 weights")?;
-    check_not_shared(rt, rule, 100, &[0, 0, 0], &mut [UNTOUCHED; 3], 0).note("all weights 0")?;
-    check_not_shared(rt, rule, 100, &[2_000_000_000, 1], &mut [UNTOUCHED; 2], 0).note(
-        "sum of weights",
-    )?;
+fn check_limits<H: Sharing>(rt: &impl Abort, name: &str, rule: &H) {
     check_not_shared(
         rt,
+        name,
+        "negative weight",
+        rule,
+        100,
+        &[1, -1, 1],
+        &mut [UNTOUCHED; 3],
+        2,
+    );
+    check_not_shared(
+        rt,
+        name,
+        "no weights",
+        rule,
+        100,
+        &[],
+        &mut [UNTOUCHED; 0],
+        0,
+    );
+    check_not_shared(
+        rt,
+        name,
+        "65 weights",
+        rule,
+        100,
+        &[1; 65],
+        &mut [UNTOUCHED; 65],
+        0,
+    );
+    check_not_shared(
+        rt,
+        name,
+        "all weights 0",
+        rule,
+        100,
+        &[0, 0, 0],
+        &mut [UNTOUCHED; 3],
+        0,
+    );
+    check_not_shared(
+        rt,
+        name,
+        "sum of weights",
+        rule,
+        100,
+        &[2_000_000_000, 1],
+        &mut [UNTOUCHED; 2],
+        0,
+    );
+    check_not_shared(
+        rt,
+        name,
+        "pool times sum",
         rule,
         4_500_000_001,
         &[2_000_000_000],
         &mut [UNTOUCHED; 1],
         0,
-    )
-    .note("pool times sum")?;
-    check_not_shared(rt, rule, 100, &[1, 1], &mut [UNTOUCHED; 3], 0).note("a longer list")?;
-    check_not_shared(rt, rule, 100, &[1, 1], &mut [UNTOUCHED; 1], 0).note("a shorter list")
+    );
+    check_not_shared(
+        rt,
+        name,
+        "a longer list",
+        rule,
+        100,
+        &[1, 1],
+        &mut [UNTOUCHED; 3],
+        0,
+    );
+    check_not_shared(
+        rt,
+        name,
+        "a shorter list",
+        rule,
+        100,
+        &[1, 1],
+        &mut [UNTOUCHED; 1],
+        0,
+    );
 }
 
 #[test]
-fn both_rules_refuse_the_same_pools_and_weights(rt: HostRuntime) -> Result<(), Fail> {
-    check_limits(&rt, &LargestRemainder).note("largest remainder")?;
-    check_limits(&rt, &Running).note("running")
+fn both_rules_refuse_the_same_pools_and_weights(rt: HostRuntime) {
+    check_limits(&rt, "largest remainder", &LargestRemainder);
+    check_limits(&rt, "running", &Running);
 }
