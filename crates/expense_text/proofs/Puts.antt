@@ -1,5 +1,5 @@
 -- Texts put at the end of a page, one after the other.
-use Rattle.std.proofs.Common.{◌≡◌, ℕ, ◌-◌, ◌≤◌, cond, List, ◌++◌, take, replicate, ℤ, is_ok, Ok, Err, Result, sym, refl, ap, ◌∙◌, append_assoc}
+use Rattle.std.proofs.Common.{◌≡◌, ℕ, ◌-◌, ◌≤◌, cond, List, ◌++◌, take, replicate, ℤ, is_ok, Ok, Err, Result, ap, ◌∙◌, append_assoc}
 use native.Mathlib.Nat.{sub-zero}
 use Rattle.std.proofs.lemmas.List.{take-replicate}
 use Rattle.std.specs.declared.alloc.AllocError.{AllocError}

@@ -1,5 +1,5 @@
 -- No amount of an accepted month is too long for its columns.
-use Rattle.std.proofs.Common.{◌≡◌, ℕ, ◌-◌, ◌*◌, ◌/◌, ◌^◌, ◌<◌, ◌≤◌, true, leb, List, length, get_or, ℤ, pos, negsuc, nat_abs, ◌≤ℤ◌, arith}
+use Rattle.std.proofs.Common.{◌≡◌, ℕ, ◌≤◌, true, List, length, get_or, ℤ, pos, negsuc, ◌≤ℤ◌, arith}
 use borrow.Author.Differences.{ints}
 use Rattle.std.proofs.lemmas.Bool.Decides.{nat_tests}
 use Rattle.measures.specs.declared.amounts.Cents.{Cents}

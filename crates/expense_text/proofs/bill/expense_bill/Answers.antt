@@ -1,4 +1,4 @@
-use Rattle.std.proofs.Common.{◌≡◌, ◌<◌, length, Some, vec_items, sym, ap, ◌∙◌, inl, inr, arith, rules}
+use Rattle.std.proofs.Common.{◌<◌, length, Some, vec_items, sym, ap, ◌∙◌, inl, arith}
 use Rattle.expense_text.proofs.Weighed.{too_many}
 use Rattle.expense_text.proofs.bill.expense_bill.Goals as goal
 

@@ -1,7 +1,7 @@
-use Rattle.std.proofs.Common.{◌≡◌, ℕ, List, [], ◌++◌, ℤ, ◌+ℤ◌, Ok, vec_items, sym, ap, ◌∙◌}
+use Rattle.std.proofs.Common.{ℕ, List, [], ◌++◌, ℤ, ◌+ℤ◌, Ok, vec_items, sym, ap, ◌∙◌}
 use Rattle.rules.specs.Sharing.{amounts, total}
 use Rattle.lines.proofs.Halves.{pools_add}
-use Rattle.lines.specs.Expense.{peak_pool, volume_pool}
+use Rattle.lines.specs.Expense.{volume_pool}
 use Rattle.expense_text.specs.Bills.{bill_header, participant_rows, sum_rows}
 use Rattle.expense_text.proofs.Puts.{put_then, sums_alike}
 use Rattle.expense_text.proofs.bill.print_bill.Goals as goal

@@ -1,4 +1,4 @@
-use Rattle.std.proofs.Common.{◌≡◌, ℕ, List, [], ◌∷◌, ◌++◌, vec_items, ap, ◌∙◌}
+use Rattle.std.proofs.Common.{ℕ, List, [], ◌∷◌, ◌++◌, vec_items, ap, ◌∙◌}
 use Rattle.text.specs.Fields.{dollars_text}
 use Rattle.expense_text.specs.Pages.{field}
 use Rattle.expense_text.proofs.Puts.{put_then}

@@ -1,4 +1,4 @@
-use Rattle.std.proofs.Common.{vec_items, arith, rules}
+use Rattle.std.proofs.Common.{vec_items, arith}
 use Rattle.expense_text.proofs.Rows.{rows_step, rows_end}
 use Rattle.expense_text.proofs.bill.push_participants.Goals as goal
 

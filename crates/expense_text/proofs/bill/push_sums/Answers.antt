@@ -1,4 +1,4 @@
-use Rattle.std.proofs.Common.{◌≡◌, ℕ, ◌++◌, ℤ, pos, vec_items, codes, subst}
+use Rattle.std.proofs.Common.{◌≡◌, ◌++◌, ℤ, pos, vec_items, codes, subst}
 use Rattle.expense_text.specs.Pages.{Put}
 use Rattle.expense_text.specs.Bills.{amount_columns, charge_columns}
 use Rattle.expense_text.proofs.Puts.{put_then}

@@ -1,4 +1,4 @@
-use Rattle.std.proofs.Common.{ℤ, ap, arith, rules}
+use Rattle.std.proofs.Common.{ℤ, ap, arith}
 use Rattle.std.proofs.lemmas.List.{length-set}
 use Rattle.lines.proofs.Written.{put_next, all_put}
 use Rattle.measures.specs.declared.amounts.MegawattHours.{MegawattHours}

@@ -1,4 +1,4 @@
-use Rattle.std.proofs.Common.{◌≡◌, ◌<◌, ◌≤◌, length, vec_items, inl, arith, rules}
+use Rattle.std.proofs.Common.{◌≡◌, ◌<◌, length, vec_items, inl, arith, rules}
 use Rattle.expense_text.specs.Files.{at_its_line}
 use Rattle.expense_text.proofs.Filed.{not_read, not_billed}
 use Rattle.expense_text.proofs.file.bill_of_file.Goals as goal

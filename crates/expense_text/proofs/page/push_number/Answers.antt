@@ -1,4 +1,4 @@
-use Rattle.std.proofs.Common.{◌≡◌, ℕ, List, ℤ, pos, vec_items, ◌∙◌, subst, w64, SFits, rules}
+use Rattle.std.proofs.Common.{ℕ, List, pos, vec_items, ◌∙◌, subst, w64, SFits, rules}
 use Rattle.std.proofs.lemmas.Int.{to_z-of_z}
 use Rattle.expense_text.specs.Pages.{Put}
 use Rattle.expense_text.proofs.Puts.{blank_part}
