@@ -10,7 +10,7 @@ import sys
 
 from second_expense_bill import answer
 
-PROGRAM = pathlib.Path(__file__).resolve().parent.parent / "target" / "bin" / "expense_bill"
+PROGRAM = pathlib.Path(__file__).resolve().parent.parent / "crates" / "expense_bill" / "out" / "expense_bill"
 LIMIT = 2_000_000_000
 
 

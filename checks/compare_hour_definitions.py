@@ -101,18 +101,18 @@ def location(code):
 
 
 def row(code, prices):
-    parts = " ".join(f"«{m}» = components {' '.join(map(number, p))};" for m, p in zip(("day_ahead", "real_time"), prices))
+    parts = " ".join(f"{m} = components {' '.join(map(number, p))};" for m, p in zip(("day_ahead", "real_time"), prices))
     return f"record {{ code = {location(code)}; {parts[:-1]} }}"
 
 
 def call_text(call):
     name = call[0]
     if name == "record":
-        return f"record-call {KINDS[call[1]]} {number(call[2])} {location(call[3])} {number(call[4])}"
+        return f"record_call {KINDS[call[1]]} {number(call[2])} {location(call[3])} {number(call[4])}"
     if name == "bilateral":
-        return f"bilateral-call {KINDS[call[1]]} {number(call[2])} {number(call[3])} {location(call[4])} {number(call[5])}"
+        return f"bilateral_call {KINDS[call[1]]} {number(call[2])} {number(call[3])} {location(call[4])} {number(call[5])}"
     if name.startswith("revise_"):
-        return f"{name.replace('_', '-')} {number(call[1])} (kwh {number(call[2])})"
+        return f"{name} {number(call[1])} (kwh {number(call[2])})"
     if name == "settle":
         rows, rounding, sharing = call[1]
         return f"settle (terms {listed(row(c, p) for c, p in sorted(rows.items()))} {rounding} {sharing})"
@@ -123,84 +123,77 @@ def answer_text(answer):
     if answer[0] == "numbered":
         return f"numbered {answer[1]}"
     if answer[0] == "fund_adjusted":
-        return f"fund-adjusted {number(answer[1])}"
+        return f"fund_adjusted {number(answer[1])}"
     if answer[0] == "refused":
         return f"refusal {CAUSES[answer[1]]} {answer[2]}"
     return "done"
 
 
 HEAD = """-- Random histories.
-use mathlib.Core.Bool.{true, false}
-use mathlib.Core.List.{List, [], _∷_, _++_, map, reverse}
-use mathlib.Core.Path.{_≡_, refl}
-use lib.Chars.{codes}
-use lib.IntN.{ℤ, pos, negsuc, negℤ, _*ℤ_}
-use lib.ListN.{length}
-use Rattle·std.specs.Options.{isSome}
-use Rattle·std.specs.declared.option.Option.the-variants.{Some, None}
-use Rattle·measures.specs.Codes.{well-formed}
-use Rattle·measures.specs.declared.code.LocationCode.{LocationCode}
-use Rattle·measures.specs.declared.fault.Cause.the-variants.{UnknownParticipant, QuantityOutOfRange, MalformedCode, BuyerIsSeller, UnknownPosting, PostingWithoutPrice, WrongPhase, ListFull, MarketLimit, VoidHour}
-use Rattle·prices.specs.Priced.{priced}
-use Rattle·prices.specs.Quotes.{Quote}
-use Rattle·prices.specs.Rows.{rows-quote}
-use Rattle·prices.specs.declared.price.Market.{Market}
-use Rattle·prices.specs.declared.price.Market.the-variants.{DayAhead, RealTime}
-use Rattle·prices.specs.declared.price.Price.{Price}
-use Rattle·prices.specs.declared.row.PriceRow.{PriceRow}
-use Rattle·rules.specs.Rounding.{Near, half-away, half-even, toward-zero}
-use Rattle·rules.specs.Sharing.{Fair, shareable, largest-remainder, running}
-use Rattle·postings.specs.declared.bilateral.BilateralKind.the-variants.{DayAheadEnergy, RealTimeEnergy, RealTimeLoad}
-use Rattle·postings.specs.declared.opening.Opening.{Opening}
-use Rattle·postings.specs.declared.record.RecordKind.the-variants.{DemandBid, DecrementBid, SupplyOffer, IncrementOffer, DayAheadPurchase, MeteredLoad, ExternalSale, MeteredGeneration, RealTimePurchase}
-use Rattle·postings.specs.Openings.{participant-count}
-use Rattle·obligations.specs.Charges.{participants}
-use Rattle·obligations.specs.Terms.{Terms}
-use Rattle·histories.specs.Calls.{Call, revise-record, revise-bilateral, close, settle, reopen, Answer, numbered, done, fund-adjusted}
-use Rattle·histories.specs.Examples.{code, kwh, record-call, bilateral-call, components, refusal, lines-after, adjustments-after}
-use Rattle·histories.specs.Told.{told, accepted, answers}
+use Rattle.std.specs.Prelude.{◌≡◌, ℕ, true, false, List, [], ◌∷◌, ◌++◌, map, reverse, length, codes, ℤ, pos, negsuc, neg_ℤ, ◌*ℤ◌, is_some, Some, None, refl}
+use Rattle.measures.specs.Codes.{well_formed}
+use Rattle.measures.specs.declared.code.LocationCode.{LocationCode}
+use Rattle.measures.specs.declared.fault.Cause.TheVariants.{UnknownParticipant, QuantityOutOfRange, MalformedCode, BuyerIsSeller, UnknownPosting, PostingWithoutPrice, WrongPhase, ListFull, MarketLimit, VoidHour}
+use Rattle.prices.specs.Priced.{priced}
+use Rattle.prices.specs.Quotes.{Quote}
+use Rattle.prices.specs.Rows.{rows_quote}
+use Rattle.prices.specs.declared.price.Market.{Market}
+use Rattle.prices.specs.declared.price.Market.TheVariants.{DayAhead, RealTime}
+use Rattle.prices.specs.declared.price.Price.{Price}
+use Rattle.prices.specs.declared.row.PriceRow.{PriceRow}
+use Rattle.rules.specs.Rounding.{Near, half_away, half_even, toward_zero}
+use Rattle.rules.specs.Sharing.{Fair, shareable, largest_remainder, running}
+use Rattle.postings.specs.declared.bilateral.BilateralKind.TheVariants.{DayAheadEnergy, RealTimeEnergy, RealTimeLoad}
+use Rattle.postings.specs.declared.opening.Opening.{Opening}
+use Rattle.postings.specs.declared.record.RecordKind.TheVariants.{DemandBid, DecrementBid, SupplyOffer, IncrementOffer, DayAheadPurchase, MeteredLoad, ExternalSale, MeteredGeneration, RealTimePurchase}
+use Rattle.postings.specs.Openings.{participant_count}
+use Rattle.obligations.specs.Charges.{participants}
+use Rattle.obligations.specs.Terms.{Terms}
+use Rattle.histories.specs.Calls.{Call, revise_record, revise_bilateral, close, settle, reopen, Answer, numbered, done, fund_adjusted}
+use Rattle.histories.specs.Examples.{code, kwh, record_call, bilateral_call, components, refusal, lines_after, adjustments_after}
+use Rattle.histories.specs.Told.{told, accepted, answers}
 
-abbrev rows-after : Opening → List Call → List (List ℤ)
-rows-after o calls = map (λ p. lines-after o calls p ++ adjustments-after o calls p) (participants (participant-count o))
+abbrev rows_after : Opening → List Call → List (List ℤ)
+rows_after o calls = map (λ p. lines_after o calls p ++ adjustments_after o calls p) (participants (participant_count o))
 
-abbrev funds-after : Opening → List Call → List ℤ
-funds-after o calls = told o (accepted o (reverse calls)) .fund-amount ∷ told o (accepted o (reverse calls)) .fund-adjustment ∷ []
+abbrev funds_after : Opening → List Call → List ℤ
+funds_after o calls = (told o (accepted o (reverse calls))).fund_amount ∷ (told o (accepted o (reverse calls))).fund_adjustment ∷ []
 
 -- computing needs no proof of the laws: they are taken as given
 module _
-    (malformed : (q : Quote) (c : LocationCode) (m : Market) → well-formed c ≡ false → q c m ≡ None)
-    (both : (q : Quote) (c : LocationCode) → isSome (q c DayAhead) ≡ isSome (q c RealTime))
-    (alike : (q : Quote) (c d : LocationCode) (m : Market) (p r : Price) → q c m ≡ Some p → q d m ≡ Some r → p .energy ≡ r .energy)
+    (malformed : (q : Quote) (c : LocationCode) (m : Market) → well_formed c ≡ false → q c m ≡ None)
+    (both : (q : Quote) (c : LocationCode) → is_some (q c DayAhead) ≡ is_some (q c RealTime))
+    (alike : (q : Quote) (c d : LocationCode) (m : Market) (p r : Price) → q c m ≡ Some p → q d m ≡ Some r → p.energy ≡ r.energy)
     (near : (f : ℤ → ℤ) (x : ℤ) → Near 1000 (pos 1000 *ℤ f x) x)
-    (odd : (f : ℤ → ℤ) (x : ℤ) → f (negℤ x) ≡ negℤ (f x))
+    (odd : (f : ℤ → ℤ) (x : ℤ) → f (neg_ℤ x) ≡ neg_ℤ (f x))
     (fair : (f : ℤ → List ℤ → List ℤ) (pool : ℤ) (ws : List ℤ) → shareable pool ws (length ws) ≡ true → Fair pool ws (f pool ws)) where
   abbrev terms : List PriceRow → (ℤ → ℤ) → (ℤ → List ℤ → List ℤ) → Terms
   terms rows rounds shares = record {
-      quote = rows-quote rows; rounds = rounds; shares = shares; malformed = malformed (rows-quote rows); both = both (rows-quote rows); alike = alike (rows-quote rows);
+      quote = rows_quote rows; rounds = rounds; shares = shares; malformed = malformed (rows_quote rows); both = both (rows_quote rows); alike = alike (rows_quote rows);
       near = near rounds; odd = odd rounds; fair = fair shares }
 """
 
 
 def theorems(i, opening, calls, hour):
-    o = f"opening-{i}"
+    o = f"opening_{i}"
     rows = [hour.amounts[p] + hour.adjustments[p] for p in sorted(hour.amounts)]
     facts = {
-        "answers": (f"reverse (answers {o} (reverse calls-{i}))", listed(answer_text(a) for _, a in calls)),
-        "rows": (f"rows-after {o} calls-{i}", listed(listed(map(number, r)) for r in rows)),
-        "funds": (f"funds-after {o} calls-{i}", listed(map(number, (hour.fund, hour.fund_adjustment)))),
+        "answers": (f"reverse (answers {o} (reverse calls_{i}))", listed(answer_text(a) for _, a in calls)),
+        "rows": (f"rows_after {o} calls_{i}", listed(listed(map(number, r)) for r in rows)),
+        "funds": (f"funds_after {o} calls_{i}", listed(map(number, (hour.fund, hour.fund_adjustment)))),
     }
     text = f"""
   abbrev {o} : Opening
-  {o} = record {{ participants = {number(opening[0])}; rows = {opening[1]}; «record_places» = {opening[2]}; «bilateral_places» = {opening[3]} }}
+  {o} = record {{ participants = {number(opening[0])}; rows = {opening[1]}; record_places = {opening[2]}; bilateral_places = {opening[3]} }}
 
-  abbrev calls-{i} : List Call
-  calls-{i} = {listed(call_text(c) for c, _ in calls)}
+  abbrev calls_{i} : List Call
+  calls_{i} = {listed(call_text(c) for c, _ in calls)}
 """
     for name, (found, expected) in facts.items():
         text += f"""
-  {name}-{i} : {found} ≡ {expected}
+  {name}_{i} : {found} ≡ {expected}
   unfolding priced
-  {name}-{i} = refl
+  {name}_{i} = refl
 """
     return text
 
@@ -210,15 +203,9 @@ LAYERS = ["measures", "rules", "prices", "runs", "postings", "obligations", "his
 
 
 def copy_layers(copy):
-    """The layers into an empty repository, with what the checker has kept of them."""
+    """The layers into an empty repository."""
     for layer in LAYERS:
-        shutil.copytree(ROOT / "crates" / layer, copy / "crates" / layer, ignore=shutil.ignore_patterns("must-fail"))
-    for kept in ("inc", "rlib", "stamp"):
-        folder = copy / "target" / kept
-        folder.mkdir(parents=True)
-        for path in (ROOT / "target" / kept).glob("*"):
-            if path.name.split(".")[0] in LAYERS:
-                (shutil.copytree if path.is_dir() else shutil.copy)(path, folder / path.name)
+        shutil.copytree(ROOT / "crates" / layer, copy / "crates" / layer, ignore=shutil.ignore_patterns("must-fail", "out"))
     lines = (ROOT / "crates.txt").read_text().splitlines()
     (copy / "crates.txt").write_text("".join(line + "\n" for line in lines if line.split(":")[0] in LAYERS))
 
@@ -234,14 +221,14 @@ def main():
         crate = copy / "crates" / "random_hours"
         for part in ("src", "specs", "proofs"):
             (crate / part).mkdir(parents=True)
-        (crate / "src" / "lib.rt").write_text("// Random histories of an hour.\n")
+        (crate / "src" / "lib.rt").write_text("// Random histories of an hour.\n#![tactic(auto)]\n")
         (crate / "specs" / "Lib.antt").write_text("")
         (crate / "proofs" / "Lib.antt").write_text("mod Histories\n")
         (crate / "proofs" / "Histories.antt").write_text(HEAD + "".join(theorems(i, *h) for i, h in enumerate(histories)))
         with open(copy / "crates.txt", "a") as listing:
             listing.write("random_hours: measures rules prices postings obligations histories\n")
-        run = subprocess.run(["rt", "dev", "random_hours"], cwd=copy, stdout=subprocess.PIPE, stderr=subprocess.STDOUT, text=True)
-    wrong = sorted({int(n) for n in re.findall(r"error: `\w+-(\d+)`", run.stdout)})
+        run = subprocess.run(["rt", "check"], cwd=crate, stdout=subprocess.PIPE, stderr=subprocess.STDOUT, text=True)
+    wrong = sorted({int(n) for n in re.findall(r"error: `\w+_(\d+)`", run.stdout)})
     for i in wrong[:5]:
         opening, calls, hour = histories[i]
         print(f"history {i} of seed {seed} disagrees: opened with {opening}")

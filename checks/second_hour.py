@@ -58,8 +58,8 @@ def running(pool, weights):
     return shares
 
 
-ROUNDING = {"half-away": half_away, "half-even": half_even, "toward-zero": toward_zero}
-SHARING = {"largest-remainder": largest_remainder, "running": running}
+ROUNDING = {"half_away": half_away, "half_even": half_even, "toward_zero": toward_zero}
+SHARING = {"largest_remainder": largest_remainder, "running": running}
 
 
 def well_formed(code):
