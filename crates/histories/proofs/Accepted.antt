@@ -1,6 +1,6 @@
 -- An accepted call meets no cause; an hour comes, call by call, to what its accepted calls tell.
 use Rattle.std.proofs.Common.{◌≡◌, ℕ, suc, Bool, true, false, cond, List, [], ◌∷◌, Some, None, Option, sym, refl, ap, ◌∙◌, arith}
-use Rattle.std.specs.List.{AllByRecursion as All}
+use Rattle.std.specs.List.{AllByRecursion}
 use Rattle.measures.specs.declared.fault.Cause.{Cause}
 use Rattle.measures.specs.declared.fault.Cause.TheVariants.{UnknownParticipant, QuantityOutOfRange, BuyerIsSeller, UnknownPosting, PostingWithoutPrice, ListFull, MarketLimit, VoidHour}
 use Rattle.measures.specs.declared.fault.Fault.{Fault}
@@ -15,11 +15,11 @@ pub some_is_not_none : {A : Type 0} (a : A) → ◌≡◌ {A = Option A} (Some a
 some_is_not_none a e = let z : ◌≡◌ {A = ℕ} 0 1 = cc in omega arith
 
 -- where no element of a list passes the test, each fails it
-none_passes : {X : Type 0} (test : X → Bool) (xs : List X) → first_of test xs ≡ None → All (λ x. test x ≡ false) xs
+none_passes : {X : Type 0} (test : X → Bool) (xs : List X) → first_of test xs ≡ None → AllByRecursion (λ x. test x ≡ false) xs
 none_passes test [] e = tt
 none_passes test (x ∷ xs) e = go (test x) refl e (λ d. none_passes test xs d)
   where
-    go : (b : Bool) → test x ≡ b → cond b (Some x) (first_of test xs) ≡ None → (first_of test xs ≡ None → All (λ x. test x ≡ false) xs) → (test x ≡ false) × All (λ x. test x ≡ false) xs
+    go : (b : Bool) → test x ≡ b → cond b (Some x) (first_of test xs) ≡ None → (first_of test xs ≡ None → AllByRecursion (λ x. test x ≡ false) xs) → (test x ≡ false) × AllByRecursion (λ x. test x ≡ false) xs
     go true g e rest = absurd (some_is_not_none x e)
     go false g e rest = (g, rest e)
 
@@ -36,7 +36,7 @@ pub record Passed (o : Opening) (cs : List Call) (c : Call) : Type 0 where
 
 pub passed : (o : Opening) (cs : List Call) (c : Call) → cause_after o cs c ≡ None → Passed o cs c
 passed o cs c e =
-    let all : All (λ r. holds o (phase_told o cs) (standing cs) c r ≡ false) cause_order = none_passes (holds o (phase_told o cs) (standing cs) c) cause_order e in
+    let all : AllByRecursion (λ r. holds o (phase_told o cs) (standing cs) c r ≡ false) cause_order = none_passes (holds o (phase_told o cs) (standing cs) c) cause_order e in
     record {
       not_void = all.0;
       participants_known = all.1.0;

@@ -2,7 +2,7 @@
 use Rattle.std.proofs.Common.{◌≡◌, ℕ, zero, suc, ◌≤◌, Bool, true, false, cond, not, ◌||◌, leb, List, [], ◌∷◌, ◌++◌, length, ℤ, pos, nat_abs, ◌≤ℤ◌, Some, None, Option, sym, refl, ap, ◌∙◌, subst, arith, length-append}
 use lib.Signed.{le_z, lt_z}
 use borrow.Author.Differences.{ints}
-use Rattle.std.specs.List.{AllByRecursion as All}
+use Rattle.std.specs.List.{AllByRecursion}
 use Rattle.std.proofs.ByRecursion.{All-append}
 use Rattle.std.proofs.lemmas.Bool.{leb-false, not-false, and_parts, or_parts, cond-false, both_ways}
 use Rattle.measures.specs.Signs.{equal}
@@ -88,7 +88,7 @@ module _ {X : Type 0} (market : X → Market) (kwh : X → ℤ) (limit : ℤ) wh
       go None a m = subst (λ ys. market_total market kwh m ys ≤ℤ limit) (sym (none_changed market kwh i f xs a)) (l m)
       go (Some n) a m = limit_by limit n (λ m. market_total market kwh m (changed i f xs)) (λ m. market_total market kwh m xs) (e n a) (λ m d. total_changed market kwh m n i f same xs a d) l m
 
-all_changed : {X : Type 0} (Q : X → Type 0) (i : ℕ) (f : X → X) → ((x : X) → Q x → Q (f x)) → (xs : List X) → All Q xs → All Q (changed i f xs)
+all_changed : {X : Type 0} (Q : X → Type 0) (i : ℕ) (f : X → X) → ((x : X) → Q x → Q (f x)) → (xs : List X) → AllByRecursion Q xs → AllByRecursion Q (changed i f xs)
 all_changed Q i f e [] a = tt
 all_changed Q zero f e (x ∷ xs) a = (e x a.0, a.1)
 all_changed Q (suc i) f e (x ∷ xs) a = (a.0, all_changed Q i f e xs a.1)

@@ -1,6 +1,6 @@
 -- The laws of an hour, for every history.
 use Rattle.std.proofs.Common.{◌≡◌, ℕ, ◌+◌, ◌*◌, ◌≤◌, Bool, true, false, ◌&&◌, ltb, List, [], ◌∷◌, ◌++◌, map, ℤ, pos, ◌+ℤ◌, ◌-ℤ◌, is_some, Some, None, sum, Option, sym, refl, ap, ◌∙◌, subst, mul-le-mul_right, mul-le-mul_left, arith}
-use Rattle.std.specs.List.{AllByRecursion as All}
+use Rattle.std.specs.List.{AllByRecursion}
 use Rattle.std.proofs.lemmas.List.Sums.{sum_by-cons}
 use Rattle.std.proofs.lemmas.Bool.{and_parts, not-false, or_parts, false≢true}
 use Rattle.measures.specs.declared.code.LocationCode.{LocationCode}
@@ -62,7 +62,7 @@ fund_issued P [] = refl
 fund_issued P (d ∷ ds) = telescope (fund_by P (d ∷ ds)) (fund_by P ds) (sum_over (λ i. i.to_fund) (issued_by P ds)) (fund_issued P ds)
 
 -- the amounts that stand add up to the fund
-standing_fund : (P : ℕ) (ds : List Settling) → All (SettledSoundly P) ds → over_all_lines P (amount_by P ds) ≡ fund_by P ds
+standing_fund : (P : ℕ) (ds : List Settling) → AllByRecursion (SettledSoundly P) ds → over_all_lines P (amount_by P ds) ≡ fund_by P ds
 standing_fund P [] all = sum_zero (participants P)
 standing_fund P (d ∷ ds) all = bills_make_fund d.postings d.terms P (settled_shareable P d all.0)
 
@@ -88,12 +88,12 @@ no_weight (p ∷ ps) = omega (arith, sum_by-cons (λ (n : ℕ). n) 0 (map (weigh
 nobody : (P : ℕ) → anybody_weighs (record { records = []; bilaterals = [] }) P ≡ false
 nobody P = ap (ltb 0) (no_weight (participants P))
 
-near_by : (P : ℕ) (ds : List Settling) → All (SettledSoundly P) ds → (p : ℤ) → Between (pos 1) (pos P) p →
+near_by : (P : ℕ) (ds : List Settling) → AllByRecursion (SettledSoundly P) ds → (p : ℤ) → Between (pos 1) (pos P) p →
     WithinCents (8 + 4 * P) (sum_over (amount_by P ds p) all_lines) (exact_bill (settled_postings (newest ds)) (settled_quote (newest ds)) P p)
 near_by P [] all p h = rw (nobody P) (omega arith)
 near_by P (d ∷ ds) all p h = bill_is_near d.postings d.terms P (settled_shareable P d all.0) p h
 
-fund_near_by : (P : ℕ) (ds : List Settling) → All (SettledSoundly P) ds → anybody_weighs (settled_postings (newest ds)) P ≡ true →
+fund_near_by : (P : ℕ) (ds : List Settling) → AllByRecursion (SettledSoundly P) ds → anybody_weighs (settled_postings (newest ds)) P ≡ true →
     WithinCents (2 * P) (fund_by P ds) (whole (congestion_value (settled_postings (newest ds)) (settled_quote (newest ds)) P))
 fund_near_by P [] all w = absurd (false≢true (sym (nobody P) ∙ w))
 fund_near_by P (d ∷ ds) all w = fund_is_near d.postings d.terms P all.0.kept all.0.somebody w
@@ -116,7 +116,7 @@ near_exact cents each fund a c d o past = record {
 }
 
 -- ---- one bilateral more
-all_middle : {X : Type 0} (Q : X → Type 0) (xs : List X) (x : X) (ys : List X) → All Q (xs ++ x ∷ ys) → Q x
+all_middle : {X : Type 0} (Q : X → Type 0) (xs : List X) (x : X) (ys : List X) → AllByRecursion Q (xs ++ x ∷ ys) → Q x
 all_middle Q [] x ys a = a.0
 all_middle Q (y ∷ xs) x ys a = all_middle Q xs x ys a.1
 
@@ -168,7 +168,7 @@ module _ (o : Opening) (past : List Call) (o' : Opening) (past' : List Call) (d 
   }
     where
       two_parties : ¬ (x.buyer ≡ x.seller)
-      two_parties = (all_middle (BilateralKept (participant_count o')) more.before x more.after (subst (All (BilateralKept (participant_count o'))) more.second_has (last_soundly o' past' e two.second_settled).kept.bilaterals_kept)).two_parties
+      two_parties = (all_middle (BilateralKept (participant_count o')) more.before x more.after (subst (AllByRecursion (BilateralKept (participant_count o'))) more.second_has (last_soundly o' past' e two.second_settled).kept.bilaterals_kept)).two_parties
 
       both_add : {a b a' b' : ℤ} → a ≡ a' → b ≡ b' → a +ℤ b ≡ a' +ℤ b'
       both_add f g = cc

@@ -1,6 +1,6 @@
 -- What holds of every settling of a history.
 use Rattle.std.proofs.Common.{◌≡◌, ℕ, ◌≤◌, false, List, [], ◌∷◌, ℤ, Some, None, sym, ap, subst}
-use Rattle.std.specs.List.{AllByRecursion as All}
+use Rattle.std.specs.List.{AllByRecursion}
 use Rattle.postings.specs.Openings.{participant_count}
 use Rattle.postings.specs.declared.opening.Opening.{Opening}
 use Rattle.obligations.specs.Charges.{Line, amount}
@@ -20,7 +20,7 @@ pub record SettledSoundly (P : ℕ) (d : Settling) : Type 0 where
   pub somebody : 1 ≤ P
   pub at_most : P ≤ 64
 
-settled_after : (o : Opening) (cs : List Call) → Sound o cs → (c : Call) → cause_after o cs c ≡ None → All (SettledSoundly (participant_count o)) (settlings cs) → All (SettledSoundly (participant_count o)) (settlings (c ∷ cs))
+settled_after : (o : Opening) (cs : List Call) → Sound o cs → (c : Call) → cause_after o cs c ≡ None → AllByRecursion (SettledSoundly (participant_count o)) (settlings cs) → AllByRecursion (SettledSoundly (participant_count o)) (settlings (c ∷ cs))
 settled_after o cs s (post_record r) e all = all
 settled_after o cs s (post_bilateral x) e all = all
 settled_after o cs s (revise_record n q) e all = all
@@ -31,9 +31,9 @@ settled_after o cs s (settle t) e all =
     (record { kept = s.kept; priced = p.priced; somebody = at_least_1 o p.not_void; at_most = at_most_64 o }, all)
 settled_after o cs s reopen e all = all
 
-pub settled_soundly : (o : Opening) (past : List Call) → All (SettledSoundly (participant_count o)) (settlings (accepted o past))
+pub settled_soundly : (o : Opening) (past : List Call) → AllByRecursion (SettledSoundly (participant_count o)) (settlings (accepted o past))
 settled_soundly o past =
-    (always o (λ cs. Sound o cs × All (SettledSoundly (participant_count o)) (settlings cs)) (sound o [], tt)
+    (always o (λ cs. Sound o cs × AllByRecursion (SettledSoundly (participant_count o)) (settlings cs)) (sound o [], tt)
     (λ cs c q e. (sound_after o cs c q.0 e, settled_after o cs q.0 c e q.1)) past).1
 
 -- the pools of a settling could be shared
@@ -53,7 +53,7 @@ module _ (o : Opening) (past : List Call) (d : Settling) (e : last_settling o pa
   all_are = (newest_is (settlings (accepted o past)) d e).1
 
   pub last_soundly : SettledSoundly (participant_count o) d
-  last_soundly = (subst (All (SettledSoundly (participant_count o))) all_are (settled_soundly o past)).0
+  last_soundly = (subst (AllByRecursion (SettledSoundly (participant_count o))) all_are (settled_soundly o past)).0
 
   pub last_amount : (p : ℤ) (k : Line) → amount_by (participant_count o) (settlings (accepted o past)) p k ≡ amount d.postings d.terms (participant_count o) p k
   last_amount p k = ap (λ ds. amount_by (participant_count o) ds p k) all_are

@@ -1,7 +1,7 @@
 -- What one bilateral more, or one at another location, does to the component charges.
 use Rattle.std.proofs.Common.{◌≡◌, ◌≤◌, cond, List, [], ◌∷◌, ◌++◌, ℤ, pos, ◌+ℤ◌, ◌-ℤ◌, ◌*ℤ◌, neg_ℤ, sym, refl, ap, ◌∙◌, arith}
 use lib.IntN.{zero-*ℤ}
-use Rattle.std.specs.List.{AllByRecursion as All}
+use Rattle.std.specs.List.{AllByRecursion}
 use Rattle.measures.specs.Signs.{equal}
 use Rattle.measures.specs.declared.code.LocationCode.{LocationCode}
 use Rattle.measures.proofs.Numbers.{equal_self, equal_apart}
@@ -36,7 +36,7 @@ worth_insert who location effect g p xs x ys =
     let f : _ → ℤ = λ y. cond (equal (who y) p) (effect y) (pos 0) *ℤ g (location y) in
     omega (arith, linear, sum_append f xs (x ∷ ys), sum_append f xs ys)
 
-worth_none : {X : Type 0} (who : X → ℤ) (location : X → LocationCode) (effect : X → ℤ) (g : LocationCode → ℤ) (p : ℤ) (xs : List X) → All (λ x. ¬ (who x ≡ p)) xs → worth_of who location effect g p xs ≡ pos 0
+worth_none : {X : Type 0} (who : X → ℤ) (location : X → LocationCode) (effect : X → ℤ) (g : LocationCode → ℤ) (p : ℤ) (xs : List X) → AllByRecursion (λ x. ¬ (who x ≡ p)) xs → worth_of who location effect g p xs ≡ pos 0
 worth_none who location effect g p [] a = refl
 worth_none who location effect g p (x ∷ xs) a = omega (arith, linear, part_none (who x) p (effect x) (g (location x)) a.0, worth_none who location effect g p xs a.1)
 

@@ -2,7 +2,7 @@
 use Rattle.std.proofs.Common.{◌≡◌, ℕ, suc, ◌+◌, ◌*◌, ◌≤◌, Bool, true, false, cond, ◌&&◌, List, [], ◌∷◌, ◌++◌, ℤ, pos, negsuc, ◌+ℤ◌, ◌-ℤ◌, ◌*ℤ◌, neg_ℤ, nat_abs, ◌≤ℤ◌, sym, refl, ap, ◌∙◌, arith}
 use lib.IntN.{*ℤ_comm, zero-*ℤ}
 use borrow.Author.Differences.{up, down, ints, same_out, Apart-out, lt_out, le_out, same_in, below_in, at_most_in, sum_is_lem, neg_is, abs_is, product_is}
-use Rattle.std.specs.List.{AllByRecursion as All}
+use Rattle.std.specs.List.{AllByRecursion}
 use Rattle.obligations.specs.Sums.{sum_over, sum_where, apart}
 
 -- for `omega`: a product is an unknown of which nothing is known
@@ -87,7 +87,7 @@ pub sum_times_sub : {X : Type 0} (f h g : X → ℤ) (xs : List X) → sum_over 
 sum_times_sub f h g [] = refl
 sum_times_sub f h g (x ∷ xs) = omega (arith, linear, sub_mul (f x) (h x) (g x), sum_times_sub f h g xs)
 
-pub sum_le : {X : Type 0} (f g : X → ℤ) (xs : List X) → All (λ x. f x ≤ℤ g x) xs → sum_over f xs ≤ℤ sum_over g xs
+pub sum_le : {X : Type 0} (f g : X → ℤ) (xs : List X) → AllByRecursion (λ x. f x ≤ℤ g x) xs → sum_over f xs ≤ℤ sum_over g xs
 sum_le f g [] a = omega (arith, linear)
 sum_le f g (x ∷ xs) a = omega (arith, linear, a.0, sum_le f g xs a.1)
 

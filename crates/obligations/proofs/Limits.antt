@@ -1,7 +1,7 @@
 -- No pool and no total weight passes what a sharing rule takes.
 use Rattle.std.proofs.Common.{◌≡◌, ℕ, zero, suc, ◌+◌, ◌*◌, ◌<◌, ◌≤◌, Bool, true, false, cond, not, ◌&&◌, List, [], ◌∷◌, map, ℤ, pos, negsuc, ◌+ℤ◌, ◌-ℤ◌, ◌*ℤ◌, neg_ℤ, nat_abs, ◌≤ℤ◌, Some, None, sum, Option, sym, refl, ap, ◌∙◌, subst, mul-le-mul_right, mul-le-mul_left, arith}
 use borrow.Author.Differences.{ints}
-use Rattle.std.specs.List.{AllByRecursion as All}
+use Rattle.std.specs.List.{AllByRecursion}
 use Rattle.std.proofs.lemmas.List.Sums.{sum_by-cons}
 use Rattle.std.proofs.lemmas.Bool.{ltb-true}
 use Rattle.measures.specs.Signs.{equal}
@@ -46,7 +46,7 @@ at_least_zero true e h = h
 at_least_zero false e h = omega (arith, linear)
 
 -- ---- what all records come to at such prices
-worth_bound : {X : Type 0} (location : X → LocationCode) (effect : X → ℤ) (g : LocationCode → ℤ) (limit : X → ℤ) → ((l : LocationCode) → nat_abs (g l) ≤ 100000) → (xs : List X) → All (λ x. pos (nat_abs (effect x)) ≤ℤ limit x) xs →
+worth_bound : {X : Type 0} (location : X → LocationCode) (effect : X → ℤ) (g : LocationCode → ℤ) (limit : X → ℤ) → ((l : LocationCode) → nat_abs (g l) ≤ 100000) → (xs : List X) → AllByRecursion (λ x. pos (nat_abs (effect x)) ≤ℤ limit x) xs →
     pos (nat_abs (all_worth location effect g xs)) ≤ℤ (sum_over limit xs *ℤ pos 100000)
 worth_bound location effect g limit small [] a = omega (arith, ints)
 worth_bound location effect g limit small (x ∷ xs) a =
@@ -71,10 +71,10 @@ net_size m r h = go (same_market (record_market r.kind) m) (is_load r.kind) (rec
     go false l q h = omega (arith, ints)
 
 module _ (P : ℕ) (b : Postings) (k : Kept P b) where
-  quantities_in : All (λ (r : Record). pos 0 ≤ℤ record_kwh r) b.records
+  quantities_in : AllByRecursion (λ (r : Record). pos 0 ≤ℤ record_kwh r) b.records
   quantities_in = all_map (RecordKept P) (λ r. pos 0 ≤ℤ record_kwh r) (λ r h. h.quantity_in.0) b.records k.records_kept
 
-  bilateral_quantities_in : All (λ (x : Bilateral). pos 0 ≤ℤ bilateral_kwh x) b.bilaterals
+  bilateral_quantities_in : AllByRecursion (λ (x : Bilateral). pos 0 ≤ℤ bilateral_kwh x) b.bilaterals
   bilateral_quantities_in = all_map (BilateralKept P) (λ x. pos 0 ≤ℤ bilateral_kwh x) (λ x h. h.quantity_in.0) b.bilaterals k.bilaterals_kept
 
   -- a record's part in a market's total
@@ -152,7 +152,7 @@ module _ (P : ℕ) (b : Postings) (k : Kept P b) where
   load_worth p = sum_same (λ l. adjusted_load b p l) (λ l. adjusted_load b p l *ℤ pos 1) (λ l. sym (mul_one (adjusted_load b p l))) (locations b) ∙ position_worth load_position b each p
 
   -- a sum of parts of which none is below 0
-  worth_at_least : {X : Type 0} (who : X → ℤ) (location : X → LocationCode) (effect : X → ℤ) (p : ℤ) (xs : List X) → All (λ x. pos 0 ≤ℤ effect x) xs → pos 0 ≤ℤ worth_of who location effect each p xs
+  worth_at_least : {X : Type 0} (who : X → ℤ) (location : X → LocationCode) (effect : X → ℤ) (p : ℤ) (xs : List X) → AllByRecursion (λ x. pos 0 ≤ℤ effect x) xs → pos 0 ≤ℤ worth_of who location effect each p xs
   worth_at_least who location effect p [] a = omega (arith, linear)
   worth_at_least who location effect p (x ∷ xs) a = more (cond (equal (who x) p) (effect x) (pos 0)) (worth_of who location effect each p xs) (at_least_zero (equal (who x) p) (effect x) a.0) (worth_at_least who location effect p xs a.1)
     where
@@ -168,10 +168,10 @@ module _ (P : ℕ) (b : Postings) (k : Kept P b) where
       turned true e = omega (arith, linear, mul_one e, mul_one (neg_ℤ e))
       turned false e = refl
 
-  loads_at_least : All (λ (r : Record). pos 0 ≤ℤ record_effect load_position r) b.records
+  loads_at_least : AllByRecursion (λ (r : Record). pos 0 ≤ℤ record_effect load_position r) b.records
   loads_at_least = all_map (λ (r : Record). pos 0 ≤ℤ record_kwh r) (λ r. pos 0 ≤ℤ record_effect load_position r) (λ r h. at_least_zero (loads RealTime r.kind) (record_kwh r) h) b.records quantities_in
 
-  sales_at_least : All (λ (x : Bilateral). pos 0 ≤ℤ bilateral_of RealTimeLoad x) b.bilaterals
+  sales_at_least : AllByRecursion (λ (x : Bilateral). pos 0 ≤ℤ bilateral_of RealTimeLoad x) b.bilaterals
   sales_at_least = all_map (λ (x : Bilateral). pos 0 ≤ℤ bilateral_kwh x) (λ x. pos 0 ≤ℤ bilateral_of RealTimeLoad x) (λ x h. at_least_zero (same_kind x.kind RealTimeLoad) (bilateral_kwh x) h) b.bilaterals bilateral_quantities_in
 
   -- a weight is at most the load and what was sold of it
@@ -214,7 +214,7 @@ module _ (P : ℕ) (b : Postings) (k : Kept P b) where
   total_sum [] = refl
   total_sum (p ∷ ps) = omega (arith, linear, total_sum ps, sum_by-cons (λ x. x) (weight b p) (map (weight b) ps))
 
-  all_under : (ps : List ℤ) → All (λ p. pos (weight b p) ≤ℤ (load_of p +ℤ sold_of p)) ps
+  all_under : (ps : List ℤ) → AllByRecursion (λ p. pos (weight b p) ≤ℤ (load_of p +ℤ sold_of p)) ps
   all_under [] = tt
   all_under (p ∷ ps) = (weight_under p, all_under ps)
 

@@ -2,7 +2,7 @@
 use Rattle.std.proofs.Common.{◌≡◌, ℕ, zero, suc, ◌+◌, ◌<◌, ◌≤◌, Bool, true, false, cond, ◌||◌, List, [], ◌∷◌, ◌++◌, map, ℤ, pos, negsuc, ◌+ℤ◌, ◌*ℤ◌, sym, refl, ap, ◌∙◌, inl, inr, arith}
 use lib.IntN.{zero-*ℤ}
 use borrow.Author.Differences.{ints}
-use Rattle.std.specs.List.{AllByRecursion as All}
+use Rattle.std.specs.List.{AllByRecursion}
 use Rattle.std.proofs.lemmas.Bool.{cond-true, cond-false, or_cases, or_left, or_right}
 use Rattle.measures.specs.Codes.{same_code}
 use Rattle.measures.specs.Signs.{equal}
@@ -23,7 +23,7 @@ abbrev pub StandsOnce : {I : Type 0} → (I → I → Bool) → List I → I →
 StandsOnce {I} same ls k = (g : I → ℤ) → sum_where (same k) g ls ≡ g k
 
 -- over such keys, each element is counted at its own key
-pub sum_by_key : {X I : Type 0} (same : I → I → Bool) (ls : List I) (key : X → I) (v : X → I → ℤ) (xs : List X) → All (λ x. StandsOnce same ls (key x)) xs →
+pub sum_by_key : {X I : Type 0} (same : I → I → Bool) (ls : List I) (key : X → I) (v : X → I → ℤ) (xs : List X) → AllByRecursion (λ x. StandsOnce same ls (key x)) xs →
     sum_over (λ l. sum_over (λ x. cond (same (key x) l) (v x l) (pos 0)) xs) ls ≡ sum_over (λ x. v x (key x)) xs
 sum_by_key same ls key v [] a = sum_zero ls
 sum_by_key same ls key v (x ∷ xs) a =
@@ -40,7 +40,7 @@ times_cond true v c = refl
 times_cond false v c = zero-*ℤ c
 
 -- and times a number of the key
-pub sum_by_key_times : {X I : Type 0} (same : I → I → Bool) (ls : List I) (key : X → I) (v : X → ℤ) (g : I → ℤ) (xs : List X) → All (λ x. StandsOnce same ls (key x)) xs →
+pub sum_by_key_times : {X I : Type 0} (same : I → I → Bool) (ls : List I) (key : X → I) (v : X → ℤ) (g : I → ℤ) (xs : List X) → AllByRecursion (λ x. StandsOnce same ls (key x)) xs →
     sum_over (λ l. sum_where (λ x. same (key x) l) v xs *ℤ g l) ls ≡ sum_over (λ x. v x *ℤ g (key x)) xs
 sum_by_key_times same ls key v g xs a =
     sum_same (λ l. sum_where (λ x. same (key x) l) v xs *ℤ g l) (λ l. sum_over (λ x. cond (same (key x) l) (v x *ℤ g l) (pos 0)) xs)
@@ -88,33 +88,33 @@ names_right [] ds k h = h
 names_right (c ∷ cs) ds k h = or_right (same_code k c) (names (cs ++ ds) k) (names_right cs ds k h)
 
 module _ {X : Type 0} (key : X → LocationCode) where
-  names_more : (c : LocationCode) (cs : List LocationCode) (xs : List X) → All (λ x. names cs (key x) ≡ true) xs → All (λ x. names (c ∷ cs) (key x) ≡ true) xs
+  names_more : (c : LocationCode) (cs : List LocationCode) (xs : List X) → AllByRecursion (λ x. names cs (key x) ≡ true) xs → AllByRecursion (λ x. names (c ∷ cs) (key x) ≡ true) xs
   names_more c cs [] a = tt
   names_more c cs (x ∷ xs) a = (or_right (same_code (key x) c) (names cs (key x)) a.0, names_more c cs xs a.1)
 
-  names_own : (xs : List X) → All (λ x. names (map key xs) (key x) ≡ true) xs
+  names_own : (xs : List X) → AllByRecursion (λ x. names (map key xs) (key x) ≡ true) xs
   names_own [] = tt
   names_own (x ∷ xs) = (or_left (same_code (key x) (key x)) (names (map key xs) (key x)) (same_self (key x)), names_more (key x) (map key xs) xs (names_own xs))
 
-  all_left : (cs ds : List LocationCode) (xs : List X) → All (λ x. names cs (key x) ≡ true) xs → All (λ x. names (cs ++ ds) (key x) ≡ true) xs
+  all_left : (cs ds : List LocationCode) (xs : List X) → AllByRecursion (λ x. names cs (key x) ≡ true) xs → AllByRecursion (λ x. names (cs ++ ds) (key x) ≡ true) xs
   all_left cs ds [] a = tt
   all_left cs ds (x ∷ xs) a = (names_left cs ds (key x) a.0, all_left cs ds xs a.1)
 
-  all_right : (cs ds : List LocationCode) (xs : List X) → All (λ x. names ds (key x) ≡ true) xs → All (λ x. names (cs ++ ds) (key x) ≡ true) xs
+  all_right : (cs ds : List LocationCode) (xs : List X) → AllByRecursion (λ x. names ds (key x) ≡ true) xs → AllByRecursion (λ x. names (cs ++ ds) (key x) ≡ true) xs
   all_right cs ds [] a = tt
   all_right cs ds (x ∷ xs) a = (names_right cs ds (key x) a.0, all_right cs ds xs a.1)
 
-  all_once : (cs : List LocationCode) (xs : List X) → All (λ x. names cs (key x) ≡ true) xs → All (λ x. StandsOnce same_code (each_once cs) (key x)) xs
+  all_once : (cs : List LocationCode) (xs : List X) → AllByRecursion (λ x. names cs (key x) ≡ true) xs → AllByRecursion (λ x. StandsOnce same_code (each_once cs) (key x)) xs
   all_once cs [] a = tt
   all_once cs (x ∷ xs) a = (named_once cs (key x) a.0, all_once cs xs a.1)
 
 -- each posting's location stands once among the locations
-pub records_once : (b : Postings) → All (λ r. StandsOnce same_code (locations b) r.location) b.records
+pub records_once : (b : Postings) → AllByRecursion (λ r. StandsOnce same_code (locations b) r.location) b.records
 records_once b =
     all_once (λ (r : Record). r.location) (map (λ r. r.location) b.records ++ map (λ x. x.location) b.bilaterals) b.records
     (all_left (λ (r : Record). r.location) (map (λ r. r.location) b.records) (map (λ x. x.location) b.bilaterals) b.records (names_own (λ (r : Record). r.location) b.records))
 
-pub bilaterals_once : (b : Postings) → All (λ x. StandsOnce same_code (locations b) x.location) b.bilaterals
+pub bilaterals_once : (b : Postings) → AllByRecursion (λ x. StandsOnce same_code (locations b) x.location) b.bilaterals
 bilaterals_once b =
     all_once (λ (x : Bilateral). x.location) (map (λ r. r.location) b.records ++ map (λ x. x.location) b.bilaterals) b.bilaterals
     (all_right (λ (x : Bilateral). x.location) (map (λ r. r.location) b.records) (map (λ x. x.location) b.bilaterals) b.bilaterals (names_own (λ (x : Bilateral). x.location) b.bilaterals))

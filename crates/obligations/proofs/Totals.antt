@@ -1,7 +1,7 @@
 -- Over all participants the bilaterals cancel, and all lines add up to the fund.
 use Rattle.std.proofs.Common.{◌≡◌, ℕ, zero, suc, ◌-◌, ◌≤◌, Bool, true, false, cond, List, [], ◌∷◌, map, length, get_or, ℤ, pos, ◌+ℤ◌, ◌-ℤ◌, ◌*ℤ◌, neg_ℤ, nat_abs, sym, refl, ap, ◌∙◌, subst, arith}
 use lib.IntN.{zero-*ℤ}
-use Rattle.std.specs.List.{AllByRecursion as All}
+use Rattle.std.specs.List.{AllByRecursion}
 use Rattle.std.proofs.lemmas.List.{length-map}
 use Rattle.measures.specs.Signs.{equal}
 use Rattle.measures.specs.declared.code.LocationCode.{LocationCode}
@@ -30,30 +30,30 @@ cond_times : (t : Bool) (v c : ℤ) → cond t v (pos 0) *ℤ c ≡ cond t (v *�
 cond_times true v c = refl
 cond_times false v c = zero-*ℤ c
 
-pub worth_total : {X : Type 0} (who : X → ℤ) (location : X → LocationCode) (effect : X → ℤ) (g : LocationCode → ℤ) (P : ℕ) (xs : List X) → All (λ x. Between (pos 1) (pos P) (who x)) xs →
+pub worth_total : {X : Type 0} (who : X → ℤ) (location : X → LocationCode) (effect : X → ℤ) (g : LocationCode → ℤ) (P : ℕ) (xs : List X) → AllByRecursion (λ x. Between (pos 1) (pos P) (who x)) xs →
     sum_over (λ p. worth_of who location effect g p xs) (participants P) ≡ all_worth location effect g xs
 worth_total who location effect g P xs a =
     sum_same (λ p. worth_of who location effect g p xs) (λ p. sum_over (λ x. cond (equal (who x) p) (effect x *ℤ g (location x)) (pos 0)) xs)
     (λ p. sum_same (λ x. cond (equal (who x) p) (effect x) (pos 0) *ℤ g (location x)) (λ x. cond (equal (who x) p) (effect x *ℤ g (location x)) (pos 0)) (λ x. cond_times (equal (who x) p) (effect x) (g (location x))) xs) (participants P)
     ∙ sum_by_key equal (participants P) who (λ x p. effect x *ℤ g (location x)) xs (once xs a)
   where
-    once : (xs : List _) → All (λ x. Between (pos 1) (pos P) (who x)) xs → All (λ x. StandsOnce equal (participants P) (who x)) xs
+    once : (xs : List _) → AllByRecursion (λ x. Between (pos 1) (pos P) (who x)) xs → AllByRecursion (λ x. StandsOnce equal (participants P) (who x)) xs
     once [] a = tt
     once (x ∷ xs) a = (participant_once P (who x) a.0, once xs a.1)
 
-pub all_map : {X : Type 0} (A B : X → Type 0) → ((x : X) → A x → B x) → (xs : List X) → All A xs → All B xs
+pub all_map : {X : Type 0} (A B : X → Type 0) → ((x : X) → A x → B x) → (xs : List X) → AllByRecursion A xs → AllByRecursion B xs
 all_map A B f [] a = tt
 all_map A B f (x ∷ xs) a = (f x a.0, all_map A B f xs a.1)
 
 -- what is bought is sold: only the records' worth is left
 module _ (P : ℕ) (b : Postings) (k : Kept P b) (g : LocationCode → ℤ) where
-  pub records_in : All (λ (r : Record). Between (pos 1) (pos P) r.participant) b.records
+  pub records_in : AllByRecursion (λ (r : Record). Between (pos 1) (pos P) r.participant) b.records
   records_in = all_map (RecordKept P) (λ r. Between (pos 1) (pos P) r.participant) (λ r h. h.participant_in) b.records k.records_kept
 
-  pub buyers_in : All (λ (x : Bilateral). Between (pos 1) (pos P) x.buyer) b.bilaterals
+  pub buyers_in : AllByRecursion (λ (x : Bilateral). Between (pos 1) (pos P) x.buyer) b.bilaterals
   buyers_in = all_map (BilateralKept P) (λ x. Between (pos 1) (pos P) x.buyer) (λ x h. h.buyer_in) b.bilaterals k.bilaterals_kept
 
-  pub sellers_in : All (λ (x : Bilateral). Between (pos 1) (pos P) x.seller) b.bilaterals
+  pub sellers_in : AllByRecursion (λ (x : Bilateral). Between (pos 1) (pos P) x.seller) b.bilaterals
   sellers_in = all_map (BilateralKept P) (λ x. Between (pos 1) (pos P) x.seller) (λ x h. h.seller_in) b.bilaterals k.bilaterals_kept
 
   pub worth_sum : (s : Position) → sum_over (λ p. worth s b g p) (participants P) ≡ all_worth (λ (r : Record). r.location) (record_effect s) g b.records

@@ -1,6 +1,6 @@
 -- What a participant's positions come to at any price per location is a sum over the postings.
 use Rattle.std.proofs.Common.{◌≡◌, Bool, cond, List, ℤ, pos, ◌+ℤ◌, ◌-ℤ◌, ◌*ℤ◌, neg_ℤ, refl, ap, ◌∙◌, arith}
-use Rattle.std.specs.List.{AllByRecursion as All}
+use Rattle.std.specs.List.{AllByRecursion}
 use Rattle.measures.specs.Codes.{same_code}
 use Rattle.measures.specs.Signs.{equal}
 use Rattle.measures.specs.declared.code.LocationCode.{LocationCode}
@@ -105,7 +105,7 @@ module _ (b : Postings) (p : ℤ) (l : LocationCode) where
 
 -- ---- over all locations
 -- one list, over any locations among which those of its elements stand once
-over_locations : {X : Type 0} (who : X → ℤ) (location : X → LocationCode) (effect : X → ℤ) (g : LocationCode → ℤ) (p : ℤ) (ls : List LocationCode) (xs : List X) → All (λ x. StandsOnce same_code ls (location x)) xs →
+over_locations : {X : Type 0} (who : X → ℤ) (location : X → LocationCode) (effect : X → ℤ) (g : LocationCode → ℤ) (p : ℤ) (ls : List LocationCode) (xs : List X) → AllByRecursion (λ x. StandsOnce same_code ls (location x)) xs →
     sum_over (λ l. sum_where (λ x. stands_at (who x) (location x) p l) effect xs *ℤ g l) ls ≡ worth_of who location effect g p xs
 over_locations who location effect g p ls xs a =
     sum_same (λ l. sum_where (λ x. stands_at (who x) (location x) p l) effect xs *ℤ g l) (λ l. sum_where (λ x. same_code (location x) l) (λ x. cond (equal (who x) p) (effect x) (pos 0)) xs *ℤ g l)

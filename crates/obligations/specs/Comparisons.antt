@@ -1,6 +1,6 @@
 -- Two hours' postings that differ by one bilateral, and settlings on equal terms.
 use Rattle.std.specs.Prelude.{◌≡◌, List, ◌∷◌, ◌++◌, ℤ}
-use Rattle.std.specs.List.{AllByRecursion as All}
+use Rattle.std.specs.List.{AllByRecursion}
 use Rattle.measures.specs.declared.code.LocationCode.{LocationCode}
 use Rattle.prices.specs.declared.price.Market.{Market}
 use Rattle.postings.specs.declared.bilateral.Bilateral.{Bilateral}
@@ -30,9 +30,9 @@ pub record Moved (x : Bilateral) (l : LocationCode) (first second : Postings) : 
 
 -- a participant stands in no posting
 pub record Absent (p : ℤ) (b : Postings) : Type 0 where
-  pub in_no_record : All (λ (r : Record). ¬ (r.participant ≡ p)) b.records
-  pub never_buyer : All (λ (x : Bilateral). ¬ (x.buyer ≡ p)) b.bilaterals
-  pub never_seller : All (λ (x : Bilateral). ¬ (x.seller ≡ p)) b.bilaterals
+  pub in_no_record : AllByRecursion (λ (r : Record). ¬ (r.participant ≡ p)) b.records
+  pub never_buyer : AllByRecursion (λ (x : Bilateral). ¬ (x.buyer ≡ p)) b.bilaterals
+  pub never_seller : AllByRecursion (λ (x : Bilateral). ¬ (x.seller ≡ p)) b.bilaterals
 
 -- equal prices and rounding rule; the sharing rules may differ
 pub record SameTerms (first second : Terms) : Type 0 where

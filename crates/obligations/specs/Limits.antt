@@ -1,6 +1,6 @@
 -- What the postings of an hour keep to.
 use Rattle.std.specs.Prelude.{◌≡◌, ℕ, List, ℤ, pos, ◌≤ℤ◌}
-use Rattle.std.specs.List.{AllByRecursion as All}
+use Rattle.std.specs.List.{AllByRecursion}
 use Rattle.prices.specs.declared.price.Market.{Market}
 use Rattle.postings.specs.Kinds.{record_market, bilateral_market, same_market}
 use Rattle.postings.specs.declared.bilateral.Bilateral.{Bilateral}
@@ -35,7 +35,7 @@ pub record BilateralKept (P : ℕ) (x : Bilateral) : Type 0 where
 
 -- all of them, and neither market past its limits
 pub record Kept (P : ℕ) (b : Postings) : Type 0 where
-  pub records_kept : All (RecordKept P) b.records
-  pub bilaterals_kept : All (BilateralKept P) b.bilaterals
+  pub records_kept : AllByRecursion (RecordKept P) b.records
+  pub bilaterals_kept : AllByRecursion (BilateralKept P) b.bilaterals
   pub records_limit : (m : Market) → records_total m b.records ≤ℤ pos 100000000
   pub bilaterals_limit : (m : Market) → bilaterals_total m b.bilaterals ≤ℤ pos 50000000
