@@ -1,6 +1,6 @@
 // What a list of price rows says of a code, and which row may be added to it.
 ghost use Rattle.std.specs.Prelude.{◌≡◌, Some, None};
-ghost use Rattle.prices.specs.Rows.{components_in, components_in_range, held as holds-code, price_of, row_quote, rows_quote, row_refusal, fits_energy};
+ghost use Rattle.prices.specs.Rows.{components_in, components_in_range, held as holds_code, price_of, row_quote, rows_quote, row_refusal, fits_energy};
 
 use crate::faults::price_fault;
 use crate::price::make::is_in_range;
@@ -47,7 +47,7 @@ pub(crate) fn quote_in(rows: &[PriceRow], code: &LocationCode, market: Market) -
 }
 
 fn holds(rows: &[PriceRow], code: &LocationCode) -> bool
-    ensures { result ≡ holds-code rows.now code.now }
+    ensures { result ≡ holds_code rows.now code.now }
 {
     for row in rows {
         if row.code.same(code) {
