@@ -6,7 +6,7 @@ use Rattle.std.proofs.lemmas.Bool.{cond-false}
 use Rattle.measures.specs.Codes.{well_formed}
 use Rattle.measures.specs.Signs.{signed}
 use Rattle.prices.specs.Priced.{priced}
-use Rattle.prices.specs.Rows.{rows_quote, row_quote, every, row_in_range, one_energy}
+use Rattle.prices.specs.Rows.{rows_quote, row_quote, every, row_in_range, has_one_energy}
 use Rattle.prices.specs.declared.row.PriceRow.{PriceRow}
 use Rattle.prices.specs.Found.{found_alike, found_both}
 use Rattle.prices.specs.Guarded.{guard_both, guarded}
@@ -33,7 +33,7 @@ whole_near : (n : ℕ) → nat_abs (pos (1000 * (n / 1000)) -ℤ pos n) < 1000
 whole_near n = omega (arith, ints)
 
 -- ---- lawful terms over the rows of a price table
-unfoldable terms_over : (rows : List PriceRow) → every row_in_range rows ≡ true → one_energy rows ≡ true → (rounds : ℤ → ℤ) → ((x : ℤ) → Near 1000 (pos 1000 *ℤ rounds x) x) → ((x : ℤ) → rounds (neg_ℤ x) ≡ neg_ℤ (rounds x)) →
+unfoldable terms_over : (rows : List PriceRow) → every row_in_range rows ≡ true → has_one_energy rows ≡ true → (rounds : ℤ → ℤ) → ((x : ℤ) → Near 1000 (pos 1000 *ℤ rounds x) x) → ((x : ℤ) → rounds (neg_ℤ x) ≡ neg_ℤ (rounds x)) →
     (shares : ℤ → List ℤ → List ℤ) → ((pool : ℤ) (ws : List ℤ) → shareable pool ws (length ws) ≡ true → Fair pool ws (shares pool ws)) → TermsOf rows rounds shares
 terms_over rows ranges energies rounds near odd shares fair = record {
   terms = record {

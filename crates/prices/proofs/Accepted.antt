@@ -6,7 +6,7 @@ use Rattle.measures.specs.declared.fault.Cause.{Cause}
 use Rattle.measures.specs.declared.fault.Fault.{Fault}
 use Rattle.prices.specs.Quotes.{AddsPrice, HasPrice}
 use Rattle.prices.specs.Refusals.{unless}
-use Rattle.prices.specs.Rows.{components_in, every, fits_energy, held, one_energy, price_of, row_in_range, row_refusal, rows_quote, same_energy}
+use Rattle.prices.specs.Rows.{components_in, every, fits_energy, held, has_one_energy, price_of, row_in_range, row_refusal, rows_quote, same_energy}
 use Rattle.prices.specs.declared.price.Market.{Market}
 use Rattle.prices.specs.declared.price.Price.{Price}
 use Rattle.prices.specs.declared.row.PriceRow.{PriceRow}
@@ -42,7 +42,7 @@ pub every_push : (f : PriceRow → Bool) (rs : List PriceRow) (r : PriceRow) →
 every_push f [] r h k = and_from (f r) true k refl
 every_push f (x ∷ rs) r h k = let p = and_parts (f x) (every f rs) h in and_from (f x) (every f (rs ++ r ∷ [])) p.0 (every_push f rs r p.1 k)
 
-pub energy_push : (rs : List PriceRow) (r : PriceRow) → one_energy rs ≡ true → fits_energy rs r ≡ true → one_energy (rs ++ r ∷ []) ≡ true
+pub energy_push : (rs : List PriceRow) (r : PriceRow) → has_one_energy rs ≡ true → fits_energy rs r ≡ true → has_one_energy (rs ++ r ∷ []) ≡ true
 energy_push [] r h k = refl
 energy_push (f ∷ rs) r h k = every_push (same_energy f) rs r h k
 

@@ -5,7 +5,7 @@ use Rattle.std.proofs.lemmas.List.{at_drop_more, at_drop_all}
 use Rattle.std.proofs.lemmas.Bool.{and_parts, cond-true, cond-false, eqb-true, or_left}
 use Rattle.measures.specs.Codes.{same_code}
 use Rattle.measures.specs.declared.code.LocationCode.{LocationCode}
-use Rattle.prices.specs.Rows.{components_in, components_in_range, equal, every, held, one_energy, price_of, row_in_range, row_quote, same_energy}
+use Rattle.prices.specs.Rows.{components_in, components_in_range, equal, every, held, has_one_energy, price_of, row_in_range, row_quote, same_energy}
 use Rattle.prices.specs.declared.price.Market.{Market}
 use Rattle.prices.specs.declared.price.Market.TheVariants.{DayAhead, RealTime}
 use Rattle.prices.specs.declared.price.Price.{Price}
@@ -91,6 +91,6 @@ found_energy m f rs c p h e = here (same_code f.code c) e
     here false g = rest_energy m f rs c p h g
 
 -- two prices that rows with one energy component in each market give have it both
-pub found_alike : (rs : List PriceRow) (m : Market) (c d : LocationCode) (p q : Price) → one_energy rs ≡ true → row_quote rs c m ≡ Some p → row_quote rs d m ≡ Some q → p.energy ≡ q.energy
+pub found_alike : (rs : List PriceRow) (m : Market) (c d : LocationCode) (p q : Price) → has_one_energy rs ≡ true → row_quote rs c m ≡ Some p → row_quote rs d m ≡ Some q → p.energy ≡ q.energy
 found_alike [] m c d p q h e k = let z : ◌≡◌ {A = ℕ} 0 1 = cc in absurd (omega arith)
 found_alike (f ∷ rs) m c d p q h e k = found_energy m f rs c p h e ∙ sym (found_energy m f rs d q h k)

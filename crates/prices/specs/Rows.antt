@@ -77,6 +77,6 @@ every f [] = true
 every f (r ∷ rs) = f r && every f rs
 
 -- each row has the first one's energy components
-abbrev pub one_energy : List PriceRow → Bool
-one_energy [] = true
-one_energy (f ∷ rs) = every (same_energy f) rs
+abbrev pub has_one_energy : List PriceRow → Bool
+has_one_energy [] = true
+has_one_energy (f ∷ rs) = every (same_energy f) rs

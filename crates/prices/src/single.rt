@@ -1,13 +1,13 @@
 // One energy component per market for every location.
 ghost use Rattle.std.specs.Prelude.{◌≡◌, true, false, ◌&&◌, pos, Some, Ok, Err, refl};
-ghost use Rattle.std.proofs.Common.{ap, rules};
+ghost use Rattle.std.proofs.Common.{rules};
 ghost use Rattle.measures.specs.declared.fault.Cause.TheVariants.{ComponentOutOfRange};
 ghost use Rattle.prices.specs.Priced.{priced};
 ghost use Rattle.prices.specs.Range.{in_range};
 ghost use Rattle.prices.specs.Refusals.{price_fault};
 ghost use Rattle.prices.specs.Singles.{single_quote, SaysAlone, price_in};
 ghost use Rattle.measures.specs.Codes.{well_formed};
-ghost use Rattle.prices.specs.Guarded.{guard_both, guarded};
+ghost use Rattle.prices.specs.Guarded.{guard_both, guarded_alike};
 ghost use Rattle.prices.specs.declared.price.Price.{Price};
 
 use crate::faults;
@@ -58,11 +58,7 @@ impl PriceSource for SinglePrice {
 
     ghost both = { λ s c. guard_both (well_formed c) _ _ refl };
 
-    ghost alike = { λ s c d m p q e f.
-        let a = guarded (well_formed c) (Some (price_in s m)) p e in
-        let b = guarded (well_formed d) (Some (price_in s m)) q f in
-        let same : p ≡ q = cc in
-        ap (λ (x : Price). x.energy) same };
+    ghost alike = { λ s c d m p q e f. guarded_alike (λ (x : Price). x.energy) (well_formed c) (well_formed d) (price_in s m) p q e f };
 
     fn price(&self, code: &LocationCode, market: Market) -> Option<Price> {
         if !code.is_well_formed() {

@@ -1,6 +1,6 @@
 // A table of prices, filled row by row.
 ghost use Rattle.std.specs.Prelude.{◌≡◌, ◌≤◌, true, vec_len, vec_capacity};
-ghost use Rattle.prices.specs.Rows.{every, one_energy, row_in_range};
+ghost use Rattle.prices.specs.Rows.{every, has_one_energy, row_in_range};
 
 use crate::row::PriceRow;
 
@@ -14,5 +14,5 @@ pub struct PriceTable {
     ghost few: { vec_len rows ≤ 64 },
     ghost room: { 64 ≤ vec_capacity rows },
     ghost in_range: { every row_in_range rows.items ≡ true },
-    ghost one_energy: { one_energy rows.items ≡ true },
+    ghost one_energy: { has_one_energy rows.items ≡ true },
 }
