@@ -1,7 +1,7 @@
 // A settlement run, put together from a price source, a rounding rule and a sharing rule.
 #![tactic(auto)]
 
-ghost use Rattle.std.specs.Prelude.{◌≡◌};
+ghost use Rattle.std.specs.Prelude.{◌≡◌, true};
 ghost use Rattle.runs.specs.Examples.{WorkedExamples};
 
 use rules::rounding::HalfAwayFromZero;
@@ -32,7 +32,8 @@ pub fn default_run<S>(source: S) -> Run<S>
 
 // The worked examples of rounding, sharing and means hold of the definitions that the contracts cite.
 pub fn worked_examples() -> bool
-    ensures { WorkedExamples }
+    ensures answer { result ≡ true }
+    ensures examples { WorkedExamples }
 {
     true
 }

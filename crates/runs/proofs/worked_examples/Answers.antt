@@ -2,5 +2,5 @@ use Rattle.std.proofs.Common.{refl}
 use Rattle.runs.proofs.Means.{means_hold}
 use Rattle.runs.proofs.worked_examples.Goals as goal
 
-pub returns : goal.returns
-returns c = ((refl, refl, refl, refl, refl, refl), (refl, refl, refl, refl), means_hold)
+pub returns-clause-examples : goal.returns-clause-examples
+returns-clause-examples c = ((refl, refl, refl, refl, refl, refl), (refl, refl, refl, refl), means_hold)
