@@ -1,5 +1,6 @@
 -- Faults: the number of each cause, the name of each layer, and what a layer above adds.
-use Rattle.std.specs.Prelude.{ℕ, cond, List, codes, ◌==◌}
+use Rattle.std.specs.Prelude.{ℕ, List, codes, Some, None, Option}
+use Rattle.std.specs.Option.{option_or}
 use Rattle.measures.specs.declared.fault.Fault.{Fault}
 use Rattle.measures.specs.declared.fault.Cause.{Cause}
 use Rattle.measures.specs.declared.fault.Cause.TheVariants.{UnknownParticipant, Layout, QuantityOutOfRange, MalformedCode, BuyerIsSeller, UnknownPosting, PostingWithoutPrice, ComponentOutOfRange, OtherEnergyComponent, PricedAlready, GroupOutOfRange, MemberWithoutPrice, SharingLimits, ExpenseOutOfRange, ShortPage, WrongPhase, ListFull, MarketLimit, SourceFull, VoidHour, OutOfMemory}
@@ -38,13 +39,13 @@ layer_name Share = codes "SHARE"
 layer_name Hour = codes "HOUR"
 
 -- a fault as the layer that finds it says it: no layer above has added its place yet
-abbrev pub fault : Cause → Layer → ℕ → Fault
-fault c l p = record { cause = c; layer = l; place = p; charge_line = 0; text_line = 0 }
+abbrev pub fault : Cause → Layer → Option ℕ → Fault
+fault c l p = record { cause = c; layer = l; place = p; charge_line = None; text_line = None }
 
 -- the fault with a charge line added where it has none; all else stays
 abbrev pub on_charge_line : ℕ → Fault → Fault
-on_charge_line n f = record { cause = f.cause; layer = f.layer; place = f.place; charge_line = cond (f.charge_line == 0) n f.charge_line; text_line = f.text_line }
+on_charge_line n f = record { cause = f.cause; layer = f.layer; place = f.place; charge_line = option_or f.charge_line (Some n); text_line = f.text_line }
 
 -- the fault with a text line added where it has none; all else stays
 abbrev pub on_text_line : ℕ → Fault → Fault
-on_text_line n f = record { cause = f.cause; layer = f.layer; place = f.place; charge_line = f.charge_line; text_line = cond (f.text_line == 0) n f.text_line }
+on_text_line n f = record { cause = f.cause; layer = f.layer; place = f.place; charge_line = f.charge_line; text_line = option_or f.text_line (Some n) }

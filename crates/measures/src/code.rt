@@ -1,9 +1,9 @@
 // Location codes: eight bytes, one to eight code bytes and then spaces.
 ghost use Rattle.std.specs.Prelude.{◌≡◌};
-ghost use Rattle.measures.specs.Codes.{code_byte, padded, well_formed, same_code};
+ghost use Rattle.measures.specs.Codes.{blank, code_byte, padded, well_formed};
 
 // Any eight bytes, so that a malformed code can be handed over and refused.
-#[derive(Clone, Copy, Debug)]
+#[derive(Clone, Copy, PartialEq, Eq, Debug)]
 pub struct LocationCode {
     pub bytes: [u8; 8],
 }
@@ -14,19 +14,19 @@ fn is_code_byte(byte: u8) -> bool
     matches!(byte, b'A'..=b'Z' | b'0'..=b'9' | b'.' | b'-')
 }
 
-// Code bytes and then spaces; `letters` says that no space has come yet.
-fn is_padded(letters: bool, bytes: &[u8]) -> bool
-    ensures { result ≡ padded letters bytes.now }
+fn is_blank(bytes: &[u8]) -> bool
+    ensures { result ≡ blank bytes.now }
+{
+    bytes.iter().all(|byte| *byte == b' ')
+}
+
+// Code bytes, and from some place on only spaces.
+fn is_padded(bytes: &[u8]) -> bool
+    ensures { result ≡ padded bytes.now }
 {
     match bytes {
-        [] => true,
-        [byte, rest @ ..] => {
-            if letters && is_code_byte(*byte) {
-                is_padded(true, rest)
-            } else {
-                *byte == b' ' && is_padded(false, rest)
-            }
-        }
+        [byte, rest @ ..] if is_code_byte(*byte) => is_padded(rest),
+        _ => is_blank(bytes),
     }
 }
 
@@ -37,14 +37,7 @@ impl LocationCode {
         let all = &self.bytes[..];
         match all {
             [] => false,
-            [first, rest @ ..] => is_code_byte(*first) && is_padded(true, rest),
+            [first, rest @ ..] => is_code_byte(*first) && is_padded(rest),
         }
-    }
-
-    // The one comparison by which codes are told apart.
-    pub fn same(&self, other: &LocationCode) -> bool
-        ensures { result ≡ same_code self.now other.now }
-    {
-        self.bytes == other.bytes
     }
 }

@@ -5,7 +5,7 @@ ghost use Rattle.measures.specs.Faults.{fault, number_of, layer_name, on_charge_
 // The cause of a refusal; each has its number.
 #[derive(Clone, Copy, PartialEq, Eq, Debug)]
 pub enum Cause {
-    UnknownParticipant,
+    UnknownParticipant = 1,
     Layout,
     QuantityOutOfRange,
     MalformedCode,
@@ -20,12 +20,12 @@ pub enum Cause {
     SharingLimits,
     ExpenseOutOfRange,
     ShortPage,
-    WrongPhase,
+    WrongPhase = 21,
     ListFull,
     MarketLimit,
     SourceFull,
     VoidHour,
-    OutOfMemory,
+    OutOfMemory = 99,
 }
 
 // The layer that refused: text lines and pages, price sources, shares and expenses, or the hour.
@@ -39,14 +39,14 @@ pub enum Layer {
 
 impl Layer {
     // The layer's name as it is printed.
-    pub fn name(&self) -> &'static [u8]
+    pub fn name(&self) -> &'static str
         ensures { result.now ≡ layer_name self.now }
     {
         match self {
-            Layer::Text => b"TEXT",
-            Layer::Price => b"PRICE",
-            Layer::Share => b"SHARE",
-            Layer::Hour => b"HOUR",
+            Layer::Text => "TEXT",
+            Layer::Price => "PRICE",
+            Layer::Share => "SHARE",
+            Layer::Hour => "HOUR",
         }
     }
 }
@@ -56,56 +56,34 @@ impl Cause {
     pub fn number(&self) -> u8
         ensures { result ≡ number_of self.now }
     {
-        match self {
-            Cause::UnknownParticipant => 1,
-            Cause::Layout => 2,
-            Cause::QuantityOutOfRange => 3,
-            Cause::MalformedCode => 4,
-            Cause::BuyerIsSeller => 5,
-            Cause::UnknownPosting => 6,
-            Cause::PostingWithoutPrice => 7,
-            Cause::ComponentOutOfRange => 8,
-            Cause::OtherEnergyComponent => 9,
-            Cause::PricedAlready => 10,
-            Cause::GroupOutOfRange => 11,
-            Cause::MemberWithoutPrice => 12,
-            Cause::SharingLimits => 13,
-            Cause::ExpenseOutOfRange => 14,
-            Cause::ShortPage => 15,
-            Cause::WrongPhase => 21,
-            Cause::ListFull => 22,
-            Cause::MarketLimit => 23,
-            Cause::SourceFull => 24,
-            Cause::VoidHour => 25,
-            Cause::OutOfMemory => 99,
-        }
+        *self as u8
     }
 }
 
-// Why a call was refused. Places count from 1, and 0 says that there is none.
+// Why a call was refused. Places and lines count from 1.
 #[derive(Clone, Copy, PartialEq, Eq, Debug)]
 pub struct Fault {
     pub cause: Cause,
     pub layer: Layer,
     // the first member, weight or posting at fault
-    pub place: usize,
+    pub place: Option<usize>,
     // the charge line that was being shared
-    pub charge_line: u8,
+    pub charge_line: Option<u8>,
     // the text line that brought the call
-    pub text_line: usize,
+    pub text_line: Option<usize>,
 }
 
 impl Fault {
     // A fault in the layer that found it.
-    pub fn new(cause: Cause, layer: Layer, place: usize) -> Fault
+    pub fn new(cause: Cause, layer: Layer, place: Option<usize>) -> Fault
         ensures { result ≡ fault cause layer place }
     {
         Fault {
             cause,
             layer,
             place,
-            charge_line: 0,
-            text_line: 0,
+            charge_line: None,
+            text_line: None,
         }
     }
 
@@ -113,13 +91,9 @@ impl Fault {
     pub fn on_charge_line(self, line: u8) -> Fault
         ensures { result ≡ on_charge_line line self }
     {
-        if self.charge_line == 0 {
-            Fault {
-                charge_line: line,
-                ..self
-            }
-        } else {
-            self
+        Fault {
+            charge_line: self.charge_line.or(Some(line)),
+            ..self
         }
     }
 
@@ -127,13 +101,9 @@ impl Fault {
     pub fn on_text_line(self, line: usize) -> Fault
         ensures { result ≡ on_text_line line self }
     {
-        if self.text_line == 0 {
-            Fault {
-                text_line: line,
-                ..self
-            }
-        } else {
-            self
+        Fault {
+            text_line: self.text_line.or(Some(line)),
+            ..self
         }
     }
 }
