@@ -63,7 +63,7 @@ PA   2        20        10         0         1
 fn bills_and_refusals_are_printed_byte_for_byte(rt: HostRuntime) -> Result<(), Fail> {
     let bill = bill_of_file(rt.alloc(), &LargestRemainder, FILE)?;
     assert_eq!(rt; bill.as_slice(), BILL);
-    let fault = Fault::new(Cause::SharingLimits, Layer::Share, 2).on_text_line(3);
+    let fault = Fault::new(Cause::SharingLimits, Layer::Share, Some(2)).on_text_line(3);
     let row = refusal_row(rt.alloc(), &fault)?;
     assert_eq!(rt; row.as_slice(), REFUSAL);
     Ok(())

@@ -70,7 +70,7 @@ fn a_revision_keeps_the_rest(rt: HostRuntime) {
     let revised = bid.revised(KilowattHours(41));
     assert_eq!(rt; revised.quantity(), KilowattHours(41));
     assert_eq!(rt; revised.participant, 3);
-    assert!(rt; revised.location.same(&node()));
+    assert_eq!(rt; revised.location, node());
     let sale = Bilateral {
         kind: BilateralKind::RealTimeLoad,
         buyer: 1,

@@ -7,45 +7,47 @@ use std::process::Abort;
 pub struct Refusal {
     number: u8,
     layer: Layer,
-    place: usize,
-    charge_line: u8,
-    text_line: usize,
+    place: Option<usize>,
+    charge_line: Option<u8>,
+    text_line: Option<usize>,
 }
 
 impl Refusal {
-    // A refusal that names neither a charge line nor a text line.
+    // A refusal that names neither a charge line nor a text line; place 0 stands for none.
     pub fn new(number: u8, layer: Layer, place: usize) -> Refusal {
         Refusal {
             number,
             layer,
-            place,
-            charge_line: 0,
-            text_line: 0,
+            place: (place > 0).then_some(place),
+            charge_line: None,
+            text_line: None,
         }
     }
 
     pub fn on_charge_line(self, charge_line: u8) -> Refusal {
         Refusal {
-            charge_line,
+            charge_line: Some(charge_line),
             ..self
         }
     }
 
+    // Line 0 stands for the whole text.
     pub fn on_text_line(self, text_line: usize) -> Refusal {
-        Refusal { text_line, ..self }
+        Refusal {
+            text_line: (text_line > 0).then_some(text_line),
+            ..self
+        }
     }
+}
 
-    // What the fault of a refused call says; nothing of an accepted one.
-    pub fn of<T: Drop>(answer: Result<T, Fault>) -> Option<Refusal> {
-        match answer {
-            Ok(_) => None,
-            Err(fault) => Some(Refusal {
-                number: fault.cause.number(),
-                layer: fault.layer,
-                place: fault.place,
-                charge_line: fault.charge_line,
-                text_line: fault.text_line,
-            }),
+impl From<Fault> for Refusal {
+    fn from(fault: Fault) -> Refusal {
+        Refusal {
+            number: fault.cause.number(),
+            layer: fault.layer,
+            place: fault.place,
+            charge_line: fault.charge_line,
+            text_line: fault.text_line,
         }
     }
 }
@@ -57,5 +59,5 @@ pub fn check_refused<T: Drop>(
     answer: Result<T, Fault>,
     expected: Refusal,
 ) {
-    assert_eq!(rt; Refusal::of(answer), Some(expected), "{case}");
+    assert_eq!(rt; answer.err().map(Refusal::from), Some(expected), "{case}");
 }

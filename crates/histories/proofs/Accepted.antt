@@ -1,12 +1,13 @@
 -- An accepted call meets no cause; an hour comes, call by call, to what its accepted calls tell.
 use Rattle.std.proofs.Common.{◌≡◌, ℕ, suc, Bool, true, false, cond, List, [], ◌∷◌, Some, None, Option, sym, refl, ap, ◌∙◌, arith}
 use Rattle.std.specs.List.{AllByRecursion}
+use Rattle.std.specs.List.{find}
 use Rattle.measures.specs.declared.fault.Cause.{Cause}
 use Rattle.measures.specs.declared.fault.Cause.TheVariants.{UnknownParticipant, QuantityOutOfRange, BuyerIsSeller, UnknownPosting, PostingWithoutPrice, ListFull, MarketLimit, VoidHour}
 use Rattle.measures.specs.declared.fault.Fault.{Fault}
 use Rattle.postings.specs.declared.opening.Opening.{Opening}
 use Rattle.histories.specs.Calls.{Call, post_record, post_bilateral, revise_record, revise_bilateral, close, settle, reopen, numbered, refused}
-use Rattle.histories.specs.Causes.{first_of, cause_order, holds, hour_fault}
+use Rattle.histories.specs.Causes.{cause_order, holds, hour_fault}
 use Rattle.histories.specs.Hours.{reposted, reply_in, answer_in, once_accepted, hour_if, after_call, hour_after}
 use Rattle.histories.specs.Told.{told, standing, phase_told, cause_after, reply_after, answer_by, answer_after, counted_if, accepted}
 use Rattle.histories.proofs.Standing.{UnrevisedPast, standing_after, unrevised_after, records_counted, bilaterals_counted}
@@ -15,11 +16,11 @@ pub some_is_not_none : {A : Type 0} (a : A) → ◌≡◌ {A = Option A} (Some a
 some_is_not_none a e = let z : ◌≡◌ {A = ℕ} 0 1 = cc in omega arith
 
 -- where no element of a list passes the test, each fails it
-none_passes : {X : Type 0} (test : X → Bool) (xs : List X) → first_of test xs ≡ None → AllByRecursion (λ x. test x ≡ false) xs
+none_passes : {X : Type 0} (test : X → Bool) (xs : List X) → find test xs ≡ None → AllByRecursion (λ x. test x ≡ false) xs
 none_passes test [] e = tt
 none_passes test (x ∷ xs) e = go (test x) refl e (λ d. none_passes test xs d)
   where
-    go : (b : Bool) → test x ≡ b → cond b (Some x) (first_of test xs) ≡ None → (first_of test xs ≡ None → AllByRecursion (λ x. test x ≡ false) xs) → (test x ≡ false) × AllByRecursion (λ x. test x ≡ false) xs
+    go : (b : Bool) → test x ≡ b → cond b (Some x) (find test xs) ≡ None → (find test xs ≡ None → AllByRecursion (λ x. test x ≡ false) xs) → (test x ≡ false) × AllByRecursion (λ x. test x ≡ false) xs
     go true g e rest = absurd (some_is_not_none x e)
     go false g e rest = (g, rest e)
 

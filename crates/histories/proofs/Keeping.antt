@@ -1,12 +1,14 @@
 -- The accepted postings keep to the hour's ranges, limits and capacities.
+use Rattle.std.specs.Prelude.{slice_get}
 use Rattle.std.proofs.Common.{◌≡◌, ℕ, zero, suc, ◌≤◌, Bool, true, false, cond, not, ◌||◌, leb, List, [], ◌∷◌, ◌++◌, length, ℤ, pos, nat_abs, ◌≤ℤ◌, Some, None, Option, sym, refl, ap, ◌∙◌, subst, arith, length-append}
 use lib.Signed.{le_z, lt_z}
 use borrow.Author.Differences.{ints}
 use Rattle.std.specs.List.{AllByRecursion}
 use Rattle.std.proofs.ByRecursion.{All-append}
 use Rattle.std.proofs.lemmas.Bool.{leb-false, not-false, and_parts, or_parts, cond-false, both_ways}
-use Rattle.measures.specs.Signs.{equal}
-use Rattle.measures.proofs.Numbers.{equal_self}
+use Rattle.std.specs.Ordering.{int_eq}
+use Rattle.std.specs.Option.{option_map}
+use Rattle.measures.proofs.Numbers.{int_eq_self}
 use Rattle.prices.specs.declared.price.Market.{Market}
 use Rattle.prices.specs.declared.price.Market.TheVariants.{DayAhead, RealTime}
 use Rattle.postings.specs.Kinds.{record_market, bilateral_market, same_market}
@@ -19,7 +21,7 @@ use Rattle.obligations.specs.Limits.{market_total, Between, RecordKept, Bilatera
 use Rattle.obligations.specs.Positions.{Postings, record_kwh, bilateral_kwh}
 use Rattle.obligations.proofs.Integers.{linear, sum_append}
 use Rattle.histories.specs.Calls.{Call, post_record, post_bilateral, revise_record, revise_bilateral, close, settle, reopen}
-use Rattle.histories.specs.Causes.{changed, place_of, market_at, postings_after, records_past, bilaterals_past}
+use Rattle.histories.specs.Causes.{changed, place_of, postings_after, records_past, bilaterals_past}
 use Rattle.histories.specs.Told.{standing, cause_after, accepted}
 use Rattle.histories.proofs.Standing.{in_range, lt_no, UnrevisedPast, standing_after, unrevised_after}
 use Rattle.histories.proofs.Accepted.{Passed, passed, always}
@@ -55,14 +57,14 @@ module _ {X : Type 0} (market : X → Market) (kwh : X → ℤ) where
   total_push m xs x e = omega (arith, linear, sum_append (counts m) xs (x ∷ []), other_market m x e)
 
   -- one changed, in its own market
-  total_changed : (m n : Market) (i : ℕ) (f : X → X) → ((x : X) → market (f x) ≡ market x) → (xs : List X) → market_at market i xs ≡ Some n → same_market n m ≡ false → market_total market kwh m (changed i f xs) ≡ market_total market kwh m xs
+  total_changed : (m n : Market) (i : ℕ) (f : X → X) → ((x : X) → market (f x) ≡ market x) → (xs : List X) → option_map market (slice_get xs i) ≡ Some n → same_market n m ≡ false → market_total market kwh m (changed i f xs) ≡ market_total market kwh m xs
   total_changed m n i f same [] a e = refl
   total_changed m n zero f same (x ∷ xs) a e =
       let here : market x ≡ n = cc in
       omega (arith, linear, other_market m x (ap (λ k. same_market k m) here ∙ e), other_market m (f x) (ap (λ k. same_market k m) (same x ∙ here) ∙ e))
   total_changed m n (suc i) f same (x ∷ xs) a e = omega (arith, linear, total_changed m n i f same xs a e)
 
-  none_changed : (i : ℕ) (f : X → X) (xs : List X) → market_at market i xs ≡ None → changed i f xs ≡ xs
+  none_changed : (i : ℕ) (f : X → X) (xs : List X) → option_map market (slice_get xs i) ≡ None → changed i f xs ≡ xs
   none_changed i f [] a = refl
   none_changed zero f (x ∷ xs) a = absurd (never x a)
     where
@@ -81,10 +83,10 @@ module _ {X : Type 0} (market : X → Market) (kwh : X → ℤ) (limit : ℤ) wh
   push_limit : (xs : List X) (x : X) → lt_z limit (market_total market kwh (market x) (xs ++ x ∷ [])) ≡ false → ((m : Market) → market_total market kwh m xs ≤ℤ limit) → (m : Market) → market_total market kwh m (xs ++ x ∷ []) ≤ℤ limit
   push_limit xs x e l = limit_by limit (market x) (λ m. market_total market kwh m (xs ++ x ∷ [])) (λ m. market_total market kwh m xs) e (λ m d. total_push market kwh m xs x d) l
 
-  change_limit : (i : ℕ) (f : X → X) → ((x : X) → market (f x) ≡ market x) → (xs : List X) → ((n : Market) → market_at market i xs ≡ Some n → lt_z limit (market_total market kwh n (changed i f xs)) ≡ false) → ((m : Market) → market_total market kwh m xs ≤ℤ limit) → (m : Market) → market_total market kwh m (changed i f xs) ≤ℤ limit
-  change_limit i f same xs e l = go (market_at market i xs) refl
+  change_limit : (i : ℕ) (f : X → X) → ((x : X) → market (f x) ≡ market x) → (xs : List X) → ((n : Market) → option_map market (slice_get xs i) ≡ Some n → lt_z limit (market_total market kwh n (changed i f xs)) ≡ false) → ((m : Market) → market_total market kwh m xs ≤ℤ limit) → (m : Market) → market_total market kwh m (changed i f xs) ≤ℤ limit
+  change_limit i f same xs e l = go (option_map market (slice_get xs i)) refl
     where
-      go : (a : Option Market) → market_at market i xs ≡ a → (m : Market) → market_total market kwh m (changed i f xs) ≤ℤ limit
+      go : (a : Option Market) → option_map market (slice_get xs i) ≡ a → (m : Market) → market_total market kwh m (changed i f xs) ≤ℤ limit
       go None a m = subst (λ ys. market_total market kwh m ys ≤ℤ limit) (sym (none_changed market kwh i f xs a)) (l m)
       go (Some n) a m = limit_by limit n (λ m. market_total market kwh m (changed i f xs)) (λ m. market_total market kwh m xs) (e n a) (λ m d. total_changed market kwh m n i f same xs a d) l m
 
@@ -125,7 +127,7 @@ module _ (o : Opening) (cs : List Call) (k : Kept (participant_count o) (standin
           record {
             buyer_in = in_range (pos 1) (pos P) x.buyer (not-false (within (pos 1) (pos P) x.buyer) who.0);
             seller_in = one_in (pos 1) (pos P) x.seller who.1;
-            two_parties = λ e. both_ways (equal x.buyer x.seller) p.two_parties (ap (equal x.buyer) (sym e) ∙ equal_self x.buyer);
+            two_parties = λ e. both_ways (int_eq x.buyer x.seller) p.two_parties (ap (int_eq x.buyer) (sym e) ∙ int_eq_self x.buyer);
             quantity_in = one_in (pos 0) (pos 10000000) (bilateral_kwh x) p.quantities_in_range;
           },
           tt,

@@ -3,6 +3,7 @@ use Rattle.std.proofs.Common.{◌≡◌, ℕ, ◌+◌, ◌*◌, ◌≤◌, Bool,
 use Rattle.std.specs.List.{AllByRecursion}
 use Rattle.std.proofs.lemmas.List.Sums.{sum_by-cons}
 use Rattle.std.proofs.lemmas.Bool.{and_parts, not-false, or_parts, false≢true}
+use Rattle.std.specs.List.{list_any}
 use Rattle.measures.specs.declared.code.LocationCode.{LocationCode}
 use Rattle.prices.specs.Quotes.{Quote}
 use Rattle.prices.specs.declared.price.Market.{Market}
@@ -25,7 +26,7 @@ use Rattle.obligations.proofs.Integers.{linear, sum_same, sum_swap, sum_zero}
 use Rattle.obligations.proofs.Limits.{pool_bound, weight_bound, pools_shareable}
 use Rattle.obligations.proofs.Totals.{bills_make_fund}
 use Rattle.histories.specs.Calls.{Call}
-use Rattle.histories.specs.Causes.{any, unpriced, any_unpriced, cause_order}
+use Rattle.histories.specs.Causes.{unpriced, any_unpriced, cause_order}
 use Rattle.histories.specs.Laws.{FromTheseCallsAlone, over_all_lines, BothSides, settled_postings, settled_quote, bill_told, NearExact, OneBilateral, TwoSettled, OneBilateralMore, WithinSharingLimits}
 use Rattle.histories.specs.Told.{Settling, Issue, issued_by, amount_by, fund_by, newest, settlings, standing, accepted, told, last_settling}
 use Rattle.histories.proofs.Accepted.{hour_told, answer_told, refusal_keeps}
@@ -120,9 +121,9 @@ all_middle : {X : Type 0} (Q : X → Type 0) (xs : List X) (x : X) (ys : List X)
 all_middle Q [] x ys a = a.0
 all_middle Q (y ∷ xs) x ys a = all_middle Q xs x ys a.1
 
-none_middle : {X : Type 0} (test : X → Bool) (xs : List X) (x : X) (ys : List X) → any test (xs ++ x ∷ ys) ≡ false → test x ≡ false
-none_middle test [] x ys e = (or_parts (test x) (any test ys) e).0
-none_middle test (y ∷ xs) x ys e = none_middle test xs x ys (or_parts (test y) (any test (xs ++ x ∷ ys)) e).1
+none_middle : {X : Type 0} (test : X → Bool) (xs : List X) (x : X) (ys : List X) → list_any test (xs ++ x ∷ ys) ≡ false → test x ≡ false
+none_middle test [] x ys e = (or_parts (test x) (list_any test ys) e).0
+none_middle test (y ∷ xs) x ys e = none_middle test xs x ys (or_parts (test y) (list_any test (xs ++ x ∷ ys)) e).1
 
 -- where a bilateral of a settling stands, there is a price in each market
 priced_at : (q : Quote) (b : Postings) (xs : List Bilateral) (x : Bilateral) (ys : List Bilateral) → b.bilaterals ≡ xs ++ x ∷ ys → any_unpriced q b ≡ false → (m : Market) → is_some (q x.location m) ≡ true
@@ -131,7 +132,7 @@ priced_at q b xs x ys e u m = in_market m (and_parts (is_some (q x.location DayA
     here : unpriced q x.location ≡ false
     here =
         none_middle (λ (y : Bilateral). unpriced q y.location) xs x ys
-        (subst (λ zs. any (λ (y : Bilateral). unpriced q y.location) zs ≡ false) e (or_parts (any (λ (r : Record). unpriced q r.location) b.records) (any (λ (y : Bilateral). unpriced q y.location) b.bilaterals) u).1)
+        (subst (λ zs. list_any (λ (y : Bilateral). unpriced q y.location) zs ≡ false) e (or_parts (list_any (λ (r : Record). unpriced q r.location) b.records) (list_any (λ (y : Bilateral). unpriced q y.location) b.bilaterals) u).1)
 
     in_market : (m : Market) → (is_some (q x.location DayAhead) ≡ true) × (is_some (q x.location RealTime) ≡ true) → is_some (q x.location m) ≡ true
     in_market DayAhead h = h.0

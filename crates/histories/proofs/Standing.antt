@@ -3,9 +3,10 @@ use Rattle.std.proofs.Common.{◌≡◌, ℕ, zero, suc, ◌+◌, ◌-◌, ◌<�
 use lib.Signed.{le_z, lt_z, le_z_yes, lt_z_no}
 use borrow.Author.Differences.{ints}
 use Rattle.std.proofs.lemmas.Bool.{false≢true, not-false, and_parts}
-use Rattle.measures.specs.Signs.{equal}
+use Rattle.std.specs.Ordering.{int_eq}
+use Rattle.std.specs.Option.{option_or, unwrap_or}
 use Rattle.measures.specs.declared.amounts.KilowattHours.{KilowattHours}
-use Rattle.measures.proofs.Numbers.{equal_self, equal_apart}
+use Rattle.measures.proofs.Numbers.{int_eq_self, int_eq_apart}
 use Rattle.postings.specs.Openings.{within}
 use Rattle.postings.specs.Revised.{revised_record, revised_bilateral}
 use Rattle.postings.specs.declared.bilateral.Bilateral.{Bilateral}
@@ -13,8 +14,8 @@ use Rattle.postings.specs.declared.record.Record.{Record}
 use Rattle.obligations.specs.Limits.{Between}
 use Rattle.obligations.specs.Positions.{Postings}
 use Rattle.histories.specs.Calls.{Call, post_record, post_bilateral, revise_record, revise_bilateral, close, settle, reopen, Revision, record_posted, bilateral_posted, record_revised, bilateral_revised}
-use Rattle.histories.specs.Causes.{or_else, changed, place_of, postings_after, unknown_posting}
-use Rattle.histories.specs.Told.{newer, in_order, revised_to, number_from, standing}
+use Rattle.histories.specs.Causes.{changed, place_of, postings_after, unknown_posting}
+use Rattle.histories.specs.Told.{in_order, revised_to, number_from, standing}
 
 -- ---- tests of a range, as facts
 passes : (b : Bool) → b ≡ true → T b
@@ -73,7 +74,7 @@ bilateral_sort = record { revised = revised_bilateral; quantity = λ x. x.quanti
 
 module _ {X : Type 0} (s : Sort X) where
   abbrev shown : (ℕ → Option KilowattHours) → ℕ → X → X
-  shown to n x = s.revised (or_else (to n) (s.quantity x)) x
+  shown to n x = s.revised (unwrap_or (to n) (s.quantity x)) x
 
   abbrev listed : List Call → List X
   listed cs = number_from 1 (shown (revised_to s.revision cs)) (in_order s.posted cs)
@@ -89,7 +90,7 @@ module _ {X : Type 0} (s : Sort X) where
   posted_last : (cs : List Call) (x : X) → Unrevised cs → number_from 1 (shown (revised_to s.revision cs)) (in_order s.posted cs ++ x ∷ []) ≡ listed cs ++ x ∷ []
   posted_last cs x none =
       numbered_push 1 (shown (revised_to s.revision cs)) (in_order s.posted cs) x
-      ∙ ap (λ y. listed cs ++ y ∷ []) (ap (λ q. s.revised (or_else q (s.quantity x)) x) (none (1 + length (in_order s.posted cs)) (omega arith)) ∙ s.as_posted x)
+      ∙ ap (λ y. listed cs ++ y ∷ []) (ap (λ q. s.revised (unwrap_or q (s.quantity x)) x) (none (1 + length (in_order s.posted cs)) (omega arith)) ∙ s.as_posted x)
 
   posted_unrevised : (cs : List Call) (x : X) → Unrevised cs → (n : ℕ) → length (in_order s.posted cs ++ x ∷ []) < n → revised_to s.revision cs n ≡ None
   posted_unrevised cs x none n l = none n (omega (arith, length-append (in_order s.posted cs) (x ∷ [])))
@@ -97,13 +98,13 @@ module _ {X : Type 0} (s : Sort X) where
   -- a revision of a number changes that posting alone
   module _ (number : ℤ) (q : KilowattHours) (to : ℕ → Option KilowattHours) where
     abbrev now : ℕ → Option KilowattHours
-    now n = newer (cond (equal number (pos n)) (Some q) None) (to n)
+    now n = option_or (cond (int_eq number (pos n)) (Some q) None) (to n)
 
     other : (n : ℕ) (x : X) → ¬ (number ≡ pos n) → shown now n x ≡ shown to n x
-    other n x d = ap (λ t. s.revised (or_else (newer (cond t (Some q) None) (to n)) (s.quantity x)) x) (equal_apart number (pos n) d)
+    other n x d = ap (λ t. s.revised (unwrap_or (option_or (cond t (Some q) None) (to n)) (s.quantity x)) x) (int_eq_apart number (pos n) d)
 
     this : (n : ℕ) (x : X) → number ≡ pos n → shown now n x ≡ s.revised q (shown to n x)
-    this n x e = ap (λ t. s.revised (or_else (newer (cond t (Some q) None) (to n)) (s.quantity x)) x) (ap (λ z. equal z (pos n)) e ∙ equal_self (pos n)) ∙ sym (s.again q (or_else (to n) (s.quantity x)) x)
+    this n x e = ap (λ t. s.revised (unwrap_or (option_or (cond t (Some q) None) (to n)) (s.quantity x)) x) (ap (λ z. int_eq z (pos n)) e ∙ int_eq_self (pos n)) ∙ sym (s.again q (unwrap_or (to n) (s.quantity x)) x)
 
     revise_one : (i k : ℕ) (xs : List X) → number ≡ pos (k + i) → number_from k (shown now) xs ≡ changed i (s.revised q) (number_from k (shown to) xs)
     revise_one i k [] e = refl
@@ -131,7 +132,7 @@ module _ {X : Type 0} (s : Sort X) where
   revised_there cs number q h = revise_one number q (revised_to s.revision cs) (place_of number) 1 (in_order s.posted cs) (known_place number (length (listed cs)) h)
 
   revised_unrevised : (cs : List Call) (number : ℤ) (q : KilowattHours) → Between (pos 1) (pos (length (listed cs))) number → Unrevised cs → (n : ℕ) → length (in_order s.posted cs) < n → now number q (revised_to s.revision cs) n ≡ None
-  revised_unrevised cs number q h none n l = rw (equal_apart number (pos n) beyond) (none n l)
+  revised_unrevised cs number q h none n l = rw (int_eq_apart number (pos n) beyond) (none n l)
     where
       beyond : number ≡ pos n → ⊥
       beyond e = omega (arith, ints, e, h.1, count_listed cs)

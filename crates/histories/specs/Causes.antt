@@ -1,10 +1,12 @@
 -- Why a call is refused: one test for each cause, in a fixed order.
-use Rattle.std.specs.Prelude.{ℕ, zero, suc, ◌-◌, Bool, false, cond, not, ◌&&◌, ◌||◌, List, [], ◌∷◌, ◌++◌, length, ℤ, pos, is_some, Some, None, Option, ◌==◌, int_lt, nat_le, unsigned_abs}
+use Rattle.std.specs.Prelude.{ℕ, zero, suc, ◌-◌, Bool, false, cond, not, ◌&&◌, ◌||◌, List, [], ◌∷◌, ◌++◌, length, ℤ, pos, is_some, Some, None, Option, int_lt, nat_le, slice_get, unsigned_abs}
+use Rattle.std.specs.Option.{option_and_then, option_map, option_or}
+use Rattle.std.specs.List.{find, list_any}
 use Rattle.measures.specs.Codes.{well_formed}
-use Rattle.measures.specs.Faults.{fault, number_of}
+use Rattle.measures.specs.Faults.{fault}
 use Rattle.measures.specs.declared.code.LocationCode.{LocationCode}
 use Rattle.measures.specs.declared.fault.Cause.{Cause}
-use Rattle.measures.specs.declared.fault.Cause.TheVariants.{UnknownParticipant, Layout, QuantityOutOfRange, MalformedCode, BuyerIsSeller, UnknownPosting, PostingWithoutPrice, ComponentOutOfRange, OtherEnergyComponent, PricedAlready, GroupOutOfRange, MemberWithoutPrice, SharingLimits, ExpenseOutOfRange, ShortPage, WrongPhase, ListFull, MarketLimit, SourceFull, VoidHour, OutOfMemory}
+use Rattle.measures.specs.declared.fault.Cause.TheVariants.{UnknownParticipant, QuantityOutOfRange, MalformedCode, BuyerIsSeller, UnknownPosting, PostingWithoutPrice, WrongPhase, ListFull, MarketLimit, VoidHour}
 use Rattle.measures.specs.declared.fault.Fault.{Fault}
 use Rattle.measures.specs.declared.fault.Layer.TheVariants.{Hour}
 use Rattle.prices.specs.Quotes.{Quote}
@@ -24,27 +26,17 @@ use Rattle.obligations.specs.Positions.{Postings}
 use Rattle.obligations.specs.Terms.{Terms}
 use Rattle.histories.specs.Calls.{Call, post_record, post_bilateral, revise_record, revise_bilateral, close, settle, reopen, participants_named, quantities_named, codes_named, with_itself, terms_brought}
 
--- some element passes the test
-abbrev pub any : {X : Type 0} → (X → Bool) → List X → Bool
-any test [] = false
-any test (x ∷ xs) = test x || any test xs
-
 -- ---- postings by number
 -- numbers count from 1, places from 0
 abbrev pub place_of : ℤ → ℕ
 place_of n = unsigned_abs n - 1
 
--- the market of the posting at a place, where there is one
-abbrev pub market_at : {X : Type 0} → (X → Market) → ℕ → List X → Option Market
-market_at market i [] = None
-market_at market zero (x ∷ xs) = Some (market x)
-market_at market (suc i) (x ∷ xs) = market_at market i xs
-
+-- the market of the posting of a number, where there is one
 abbrev pub record_market_at : Postings → ℤ → Option Market
-record_market_at b n = market_at (λ r. record_market r.kind) (place_of n) b.records
+record_market_at b n = option_map (λ (r : Record). record_market r.kind) (slice_get b.records (place_of n))
 
 abbrev pub bilateral_market_at : Postings → ℤ → Option Market
-bilateral_market_at b n = market_at (λ x. bilateral_market x.kind) (place_of n) b.bilaterals
+bilateral_market_at b n = option_map (λ (x : Bilateral). bilateral_market x.kind) (slice_get b.bilaterals (place_of n))
 
 -- one element changed, the others as they were
 abbrev pub changed : {X : Type 0} → ℕ → (X → X) → List X → List X
@@ -65,37 +57,28 @@ postings_after b reopen = b
 -- ---- the tests
 -- no posting has the number that is revised
 abbrev pub unknown_posting : Postings → Call → Bool
-unknown_posting b (post_record r) = false
-unknown_posting b (post_bilateral x) = false
 unknown_posting b (revise_record n q) = not (within (pos 1) (pos (length b.records)) n)
 unknown_posting b (revise_bilateral n q) = not (within (pos 1) (pos (length b.bilaterals)) n)
-unknown_posting b close = false
-unknown_posting b (settle t) = false
-unknown_posting b reopen = false
+unknown_posting b _ = false
 
 -- a location has no price, or only in one market
 abbrev pub unpriced : Quote → LocationCode → Bool
 unpriced q l = not (is_some (q l DayAhead) && is_some (q l RealTime))
 
 abbrev pub any_unpriced : Quote → Postings → Bool
-any_unpriced q b = any (λ (r : Record). unpriced q r.location) b.records || any (λ (x : Bilateral). unpriced q x.location) b.bilaterals
+any_unpriced q b = list_any (λ (r : Record). unpriced q r.location) b.records || list_any (λ (x : Bilateral). unpriced q x.location) b.bilaterals
 
 -- a posting lacks a price in the terms that are brought
 abbrev pub lacks_price : Postings → Option Terms → Bool
 lacks_price b None = false
 lacks_price b (Some t) = any_unpriced t.quote b
 
--- the phase in which postings of a market are open, where there is a market
-abbrev pub phase_for : Option Market → Option Phase
-phase_for None = None
-phase_for (Some m) = Some (open_phase m)
-
 -- the phase that takes the call; a revision of no posting asks for none
 abbrev pub phase_needed : Postings → Call → Option Phase
 phase_needed b (post_record r) = Some (open_phase (record_market r.kind))
 phase_needed b (post_bilateral x) = Some (open_phase (bilateral_market x.kind))
-phase_needed b (revise_record n q) = phase_for (record_market_at b n)
-phase_needed b (revise_bilateral n q) = phase_for (bilateral_market_at b n)
+phase_needed b (revise_record n q) = option_map open_phase (record_market_at b n)
+phase_needed b (revise_bilateral n q) = option_map open_phase (bilateral_market_at b n)
 phase_needed b close = Some DayAheadOpen
 phase_needed b (settle t) = Some RealTimeOpen
 phase_needed b reopen = Some Settled
@@ -108,11 +91,7 @@ other_phase f (Some g) = not (same_phase f g)
 abbrev pub list_full : Opening → Postings → Call → Bool
 list_full o b (post_record r) = nat_le (record_capacity o) (length b.records)
 list_full o b (post_bilateral x) = nat_le (bilateral_capacity o) (length b.bilaterals)
-list_full o b (revise_record n q) = false
-list_full o b (revise_bilateral n q) = false
-list_full o b close = false
-list_full o b (settle t) = false
-list_full o b reopen = false
+list_full o b _ = false
 
 -- a market's records together at most 100,000,000 kWh, its bilaterals 50,000,000
 abbrev pub records_past : Postings → Option Market → Bool
@@ -129,46 +108,29 @@ past_limit b (post_record r) = records_past (postings_after b (post_record r)) (
 past_limit b (post_bilateral x) = bilaterals_past (postings_after b (post_bilateral x)) (Some (bilateral_market x.kind))
 past_limit b (revise_record n q) = records_past (postings_after b (revise_record n q)) (record_market_at b n)
 past_limit b (revise_bilateral n q) = bilaterals_past (postings_after b (revise_bilateral n q)) (bilateral_market_at b n)
-past_limit b close = false
-past_limit b (settle t) = false
-past_limit b reopen = false
+past_limit b _ = false
 
 -- whether a cause holds of a call, in a phase and with the postings that stand; causes of other layers never do
 abbrev pub holds : Opening → Phase → Postings → Call → Cause → Bool
 holds o f b c VoidHour = is_void o
-holds o f b c UnknownParticipant = any (λ p. not (within (pos 1) (pos (participant_count o)) p)) (participants_named c)
-holds o f b c QuantityOutOfRange = any (λ q. not (within (pos 0) (pos 10000000) q)) (quantities_named c)
-holds o f b c MalformedCode = any (λ l. not (well_formed l)) (codes_named c)
+holds o f b c UnknownParticipant = list_any (λ p. not (within (pos 1) (pos (participant_count o)) p)) (participants_named c)
+holds o f b c QuantityOutOfRange = list_any (λ q. not (within (pos 0) (pos 10000000) q)) (quantities_named c)
+holds o f b c MalformedCode = list_any (λ l. not (well_formed l)) (codes_named c)
 holds o f b c BuyerIsSeller = with_itself c
 holds o f b c UnknownPosting = unknown_posting b c
 holds o f b c PostingWithoutPrice = lacks_price b (terms_brought c)
 holds o f b c WrongPhase = other_phase f (phase_needed b c)
 holds o f b c ListFull = list_full o b c
 holds o f b c MarketLimit = past_limit b c
-holds o f b c Layout = false
-holds o f b c ComponentOutOfRange = false
-holds o f b c OtherEnergyComponent = false
-holds o f b c PricedAlready = false
-holds o f b c GroupOutOfRange = false
-holds o f b c MemberWithoutPrice = false
-holds o f b c SharingLimits = false
-holds o f b c ExpenseOutOfRange = false
-holds o f b c ShortPage = false
-holds o f b c SourceFull = false
-holds o f b c OutOfMemory = false
+holds o f b c _ = false
 
 -- the void hour first, then the numbers upward
 abbrev pub cause_order : List Cause
 cause_order = VoidHour ∷ UnknownParticipant ∷ QuantityOutOfRange ∷ MalformedCode ∷ BuyerIsSeller ∷ UnknownPosting ∷ PostingWithoutPrice ∷ WrongPhase ∷ ListFull ∷ MarketLimit ∷ []
 
--- the first element that passes the test
-abbrev pub first_of : {X : Type 0} → (X → Bool) → List X → Option X
-first_of test [] = None
-first_of test (x ∷ xs) = cond (test x) (Some x) (first_of test xs)
-
 -- the first cause that holds
 abbrev pub first_cause : Opening → Phase → Postings → Call → Option Cause
-first_cause o f b c = first_of (holds o f b c) cause_order
+first_cause o f b c = find (holds o f b c) cause_order
 
 -- ---- the place of a refusal
 -- the first element that passes the test, counted from n
@@ -176,20 +138,16 @@ abbrev pub first_place : {X : Type 0} → (X → Bool) → ℕ → List X → Op
 first_place test n [] = None
 first_place test n (x ∷ xs) = cond (test x) (Some n) (first_place test (suc n) xs)
 
-abbrev pub or_else : {A : Type 0} → Option A → A → A
-or_else None a = a
-or_else (Some x) a = x
-
 -- the first posting without a price: records from 1, then bilaterals from 1,025
-abbrev pub unpriced_place : Postings → Option Terms → ℕ
-unpriced_place b None = 0
-unpriced_place b (Some t) =
-    or_else (first_place (λ (r : Record). unpriced t.quote r.location) 1 b.records)
-    (or_else (first_place (λ (x : Bilateral). unpriced t.quote x.location) 1025 b.bilaterals) 0)
+abbrev pub unpriced_place : Postings → Terms → Option ℕ
+unpriced_place b t =
+    option_or (first_place (λ (r : Record). unpriced t.quote r.location) 1 b.records)
+    (first_place (λ (x : Bilateral). unpriced t.quote x.location) 1025 b.bilaterals)
 
 -- only the refusal for want of a price (7) has a place
-abbrev pub fault_place : Postings → Call → Cause → ℕ
-fault_place b c r = cond (number_of r == 7) (unpriced_place b (terms_brought c)) 0
+abbrev pub fault_place : Postings → Call → Cause → Option ℕ
+fault_place b c PostingWithoutPrice = option_and_then (unpriced_place b) (terms_brought c)
+fault_place b c _ = None
 
 -- the refusal for a cause: the hour's layer, and the place
 abbrev pub hour_fault : Postings → Call → Cause → Fault

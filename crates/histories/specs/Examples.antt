@@ -1,5 +1,5 @@
 -- Worked hours: their calls, oldest first, and the figures that they come to.
-use Rattle.std.specs.Prelude.{◌≡◌, ℕ, List, [], ◌∷◌, ◌++◌, map, reverse, ℤ, pos, negsuc, neg_ℤ, codes}
+use Rattle.std.specs.Prelude.{◌≡◌, ℕ, List, [], ◌∷◌, ◌++◌, map, reverse, ℤ, pos, negsuc, neg_ℤ, Some, None, Option, codes}
 use Rattle.measures.specs.Faults.{fault}
 use Rattle.measures.specs.declared.code.LocationCode.{LocationCode}
 use Rattle.measures.specs.declared.amounts.KilowattHours.{KilowattHours}
@@ -52,7 +52,7 @@ abbrev pub hour_of : ℤ → Opening
 hour_of P = record { participants = P; rows = 64; record_places = 1024; bilateral_places = 256 }
 
 -- a refusal of the hour
-abbrev pub refusal : Cause → ℕ → Answer
+abbrev pub refusal : Cause → Option ℕ → Answer
 refusal r place = refused (fault r Hour place)
 
 -- ---- prices
@@ -120,9 +120,9 @@ answer_to o calls c = answer_after o (accepted o (reverse calls)) c
 
 pub record LimitsMet : Type 0 where
   pub largest_taken : answer_to (hour_of (pos 2)) [] (record_call DemandBid (pos 1) node_a (pos 10000000)) ≡ numbered 1
-  pub one_more_refused : answer_to (hour_of (pos 2)) [] (record_call DemandBid (pos 1) node_a (pos 10000001)) ≡ refusal QuantityOutOfRange 0
+  pub one_more_refused : answer_to (hour_of (pos 2)) [] (record_call DemandBid (pos 1) node_a (pos 10000001)) ≡ refusal QuantityOutOfRange None
   pub market_filled : answer_to (hour_of (pos 2)) full_market (record_call DemandBid (pos 2) node_b (pos 10000000)) ≡ numbered 10
-  pub market_passed : answer_to (hour_of (pos 2)) (full_market ++ record_call DemandBid (pos 2) node_b (pos 10000000) ∷ []) (record_call SupplyOffer (pos 1) node_a (pos 1)) ≡ refusal MarketLimit 0
+  pub market_passed : answer_to (hour_of (pos 2)) (full_market ++ record_call DemandBid (pos 2) node_b (pos 10000000) ∷ []) (record_call SupplyOffer (pos 1) node_a (pos 1)) ≡ refusal MarketLimit None
 
 -- ---- a history with refusals, a reopening, a revision and a second settling, on other terms
 abbrev pub played : Terms → Terms → List Call
@@ -146,8 +146,8 @@ played t u =
 pub record Played (t u : Terms) : Type 0 where
   -- the real-time record is too early, the first revision too late, and there is no record 6
   pub answers_are : reverse (answers (hour_of (pos 3)) (reverse (played t u))) ≡
-      numbered 1 ∷ numbered 2 ∷ numbered 1 ∷ refusal WrongPhase 0 ∷ done ∷ numbered 3 ∷ numbered 4 ∷ numbered 5 ∷ numbered 2 ∷ fund_adjusted (pos 4940) ∷
-      refusal WrongPhase 0 ∷ done ∷ refusal UnknownPosting 0 ∷ done ∷ fund_adjusted (neg_ℤ (pos 3)) ∷ []
+      numbered 1 ∷ numbered 2 ∷ numbered 1 ∷ refusal WrongPhase None ∷ done ∷ numbered 3 ∷ numbered 4 ∷ numbered 5 ∷ numbered 2 ∷ fund_adjusted (pos 4940) ∷
+      refusal WrongPhase None ∷ done ∷ refusal UnknownPosting None ∷ done ∷ fund_adjusted (neg_ℤ (pos 3)) ∷ []
   pub phase_is : (told (hour_of (pos 3)) (accepted (hour_of (pos 3)) (reverse (played t u)))).phase ≡ Settled
   pub first_amounts : lines_after (hour_of (pos 3)) (played t u) (pos 1) ≡ neg_ℤ (pos 45000) ∷ pos 2300 ∷ pos 575 ∷ neg_ℤ (pos 6600) ∷ neg_ℤ (pos 23) ∷ neg_ℤ (pos 84) ∷ pos 0 ∷ pos 0 ∷ []
   pub second_amounts : lines_after (hour_of (pos 3)) (played t u) (pos 2) ≡ pos 44000 ∷ pos 2640 ∷ pos 660 ∷ pos 3462 ∷ pos 30 ∷ pos 111 ∷ neg_ℤ (pos 217) ∷ neg_ℤ (pos 1153) ∷ []
@@ -178,25 +178,25 @@ full_bilaterals =
 
 pub record RefusalsMet (t : Terms) : Type 0 where
   -- too many participants, and fewer rows than participants
-  pub void_by_count : answer_to (hour_of (pos 65)) [] close ≡ refusal VoidHour 0
-  pub void_by_rows : answer_to (record { participants = pos 3; rows = 2; record_places = 9; bilateral_places = 9 }) [] close ≡ refusal VoidHour 0
+  pub void_by_count : answer_to (hour_of (pos 65)) [] close ≡ refusal VoidHour None
+  pub void_by_rows : answer_to (record { participants = pos 3; rows = 2; record_places = 9; bilateral_places = 9 }) [] close ≡ refusal VoidHour None
   -- participant 3 of 2, with a quantity out of range and a malformed code besides; then without each
-  pub participant_first : answer_to (hour_of (pos 2)) [] (record_call DemandBid (pos 3) malformed (neg_ℤ (pos 1))) ≡ refusal UnknownParticipant 0
-  pub then_quantity : answer_to (hour_of (pos 2)) [] (record_call DemandBid (pos 2) malformed (neg_ℤ (pos 1))) ≡ refusal QuantityOutOfRange 0
-  pub then_code : answer_to (hour_of (pos 2)) [] (record_call DemandBid (pos 2) malformed (pos 1)) ≡ refusal MalformedCode 0
-  pub buyer_is_seller : answer_to (hour_of (pos 2)) [] (bilateral_call DayAheadEnergy (pos 1) (pos 1) node_a (pos 1)) ≡ refusal BuyerIsSeller 0
+  pub participant_first : answer_to (hour_of (pos 2)) [] (record_call DemandBid (pos 3) malformed (neg_ℤ (pos 1))) ≡ refusal UnknownParticipant None
+  pub then_quantity : answer_to (hour_of (pos 2)) [] (record_call DemandBid (pos 2) malformed (neg_ℤ (pos 1))) ≡ refusal QuantityOutOfRange None
+  pub then_code : answer_to (hour_of (pos 2)) [] (record_call DemandBid (pos 2) malformed (pos 1)) ≡ refusal MalformedCode None
+  pub buyer_is_seller : answer_to (hour_of (pos 2)) [] (bilateral_call DayAheadEnergy (pos 1) (pos 1) node_a (pos 1)) ≡ refusal BuyerIsSeller None
   -- in the settled phase, an unknown number is refused as such and a known one for the phase
-  pub unknown_before_phase : answer_to (hour_of (pos 2)) (sample_calls t) (revise_record (pos 5) (kwh (pos 1))) ≡ refusal UnknownPosting 0
-  pub number_zero : answer_to (hour_of (pos 2)) (sample_calls t) (revise_record (pos 0) (kwh (pos 1))) ≡ refusal UnknownPosting 0
-  pub phase_of_known : answer_to (hour_of (pos 2)) (sample_calls t) (revise_record (pos 4) (kwh (pos 1))) ≡ refusal WrongPhase 0
+  pub unknown_before_phase : answer_to (hour_of (pos 2)) (sample_calls t) (revise_record (pos 5) (kwh (pos 1))) ≡ refusal UnknownPosting None
+  pub number_zero : answer_to (hour_of (pos 2)) (sample_calls t) (revise_record (pos 0) (kwh (pos 1))) ≡ refusal UnknownPosting None
+  pub phase_of_known : answer_to (hour_of (pos 2)) (sample_calls t) (revise_record (pos 4) (kwh (pos 1))) ≡ refusal WrongPhase None
   -- no price, quantity 0 included: before the phase, by the first posting, records before bilaterals
-  pub unpriced_bilateral : answer_to (hour_of (pos 2)) (record_call DemandBid (pos 1) node_a (pos 5) ∷ bilateral_call DayAheadEnergy (pos 1) (pos 2) elsewhere (pos 0) ∷ []) (settle t) ≡ refusal PostingWithoutPrice 1025
-  pub unpriced_record : answer_to (hour_of (pos 2)) (bilateral_call DayAheadEnergy (pos 1) (pos 2) elsewhere (pos 0) ∷ record_call DemandBid (pos 1) node_a (pos 5) ∷ record_call DemandBid (pos 1) elsewhere (pos 0) ∷ []) (settle t) ≡ refusal PostingWithoutPrice 2
+  pub unpriced_bilateral : answer_to (hour_of (pos 2)) (record_call DemandBid (pos 1) node_a (pos 5) ∷ bilateral_call DayAheadEnergy (pos 1) (pos 2) elsewhere (pos 0) ∷ []) (settle t) ≡ refusal PostingWithoutPrice (Some 1025)
+  pub unpriced_record : answer_to (hour_of (pos 2)) (bilateral_call DayAheadEnergy (pos 1) (pos 2) elsewhere (pos 0) ∷ record_call DemandBid (pos 1) node_a (pos 5) ∷ record_call DemandBid (pos 1) elsewhere (pos 0) ∷ []) (settle t) ≡ refusal PostingWithoutPrice (Some 2)
   -- a full list, before the market's limit; a closed market before the full list
-  pub list_is_full : answer_to small_hour (record_call DemandBid (pos 1) node_a (pos 5) ∷ []) (record_call DemandBid (pos 1) node_a (pos 5)) ≡ refusal ListFull 0
-  pub phase_before_list : answer_to small_hour (record_call DemandBid (pos 1) node_a (pos 5) ∷ close ∷ []) (record_call DemandBid (pos 1) node_a (pos 5)) ≡ refusal WrongPhase 0
+  pub list_is_full : answer_to small_hour (record_call DemandBid (pos 1) node_a (pos 5) ∷ []) (record_call DemandBid (pos 1) node_a (pos 5)) ≡ refusal ListFull None
+  pub phase_before_list : answer_to small_hour (record_call DemandBid (pos 1) node_a (pos 5) ∷ close ∷ []) (record_call DemandBid (pos 1) node_a (pos 5)) ≡ refusal WrongPhase None
   -- real-time bilaterals of both kinds count together: 50,000,000 and one more
-  pub bilaterals_passed : answer_to (hour_of (pos 2)) full_bilaterals (bilateral_call RealTimeLoad (pos 2) (pos 1) node_b (pos 1)) ≡ refusal MarketLimit 0
+  pub bilaterals_passed : answer_to (hour_of (pos 2)) full_bilaterals (bilateral_call RealTimeLoad (pos 2) (pos 1) node_b (pos 1)) ≡ refusal MarketLimit None
   -- a revision counts without the old quantity
   pub revision_counts : answer_to (hour_of (pos 2)) (full_market ++ record_call DemandBid (pos 2) node_b (pos 10000000) ∷ []) (revise_record (pos 10) (kwh (pos 10000000))) ≡ done
 

@@ -34,11 +34,8 @@ fund_in o h t = fund h.postings t (participant_count o)
 abbrev pub reply_in : Opening → State → Call → Answer
 reply_in o h (post_record r) = numbered (suc (length h.postings.records))
 reply_in o h (post_bilateral x) = numbered (suc (length h.postings.bilaterals))
-reply_in o h (revise_record n q) = done
-reply_in o h (revise_bilateral n q) = done
-reply_in o h close = done
 reply_in o h (settle t) = fund_adjusted (fund_in o h t -ℤ h.fund_amount)
-reply_in o h reopen = done
+reply_in o h _ = done
 
 abbrev pub answer_in : Opening → State → Call → Answer
 answer_in o h c = answer_by (reply_in o h c) (λ r. refused (hour_fault h.postings c r)) (cause_in o h c)

@@ -49,7 +49,7 @@ pub record FromTheseCallsAlone (o : Opening) (past : List Call) : Type 0 where
   pub records_fit : length (standing (accepted o past)).records ≤ record_capacity o
   pub bilaterals_fit : length (standing (accepted o past)).bilaterals ≤ bilateral_capacity o
   -- a void hour refuses every call as such, and stays as it was opened
-  pub void_refuses : is_void o ≡ true → (c : Call) → answer_after o (accepted o past) c ≡ refused (fault VoidHour Hour 0)
+  pub void_refuses : is_void o ≡ true → (c : Call) → answer_after o (accepted o past) c ≡ refused (fault VoidHour Hour None)
   pub void_stays : is_void o ≡ true → told o (accepted o past) ≡ opened o
 
 -- ---- both sides of every cent

@@ -1,7 +1,8 @@
 -- What stands in an hour, told by the accepted calls alone; and which calls of a history are accepted.
 -- Lists of calls have the newest call first.
 use Rattle.std.specs.Prelude.{ℕ, suc, cond, List, [], ◌∷◌, ◌++◌, length, ℤ, pos, ◌-ℤ◌, Some, None, Option}
-use Rattle.measures.specs.Signs.{equal}
+use Rattle.std.specs.Ordering.{int_eq}
+use Rattle.std.specs.Option.{option_or, unwrap_or}
 use Rattle.measures.specs.declared.amounts.KilowattHours.{KilowattHours}
 use Rattle.measures.specs.declared.fault.Cause.{Cause}
 use Rattle.postings.specs.Openings.{is_void, participant_count}
@@ -13,17 +14,13 @@ use Rattle.obligations.specs.Charges.{Line, amount, fund}
 use Rattle.obligations.specs.Positions.{Postings}
 use Rattle.obligations.specs.Terms.{Terms}
 use Rattle.histories.specs.Calls.{Call, post_record, post_bilateral, revise_record, revise_bilateral, close, settle, reopen, Answer, numbered, done, fund_adjusted, refused, Revision, record_posted, bilateral_posted, record_revised, bilateral_revised, terms_brought, leads_to}
-use Rattle.histories.specs.Causes.{first_cause, hour_fault, or_else}
+use Rattle.histories.specs.Causes.{first_cause, hour_fault}
 
 -- ---- looking for calls of one sort
-abbrev pub newer : {A : Type 0} → Option A → Option A → Option A
-newer None old = old
-newer (Some new) old = Some new
-
 -- the last one
 abbrev pub latest : {A : Type 0} → (Call → Option A) → List Call → Option A
 latest sort [] = None
-latest sort (c ∷ cs) = newer (sort c) (latest sort cs)
+latest sort (c ∷ cs) = option_or (sort c) (latest sort cs)
 
 abbrev pub with_last : {A : Type 0} → List A → Option A → List A
 with_last xs None = xs
@@ -39,12 +36,12 @@ abbrev pub opening_phase : Opening → Phase
 opening_phase o = cond (is_void o) Void DayAheadOpen
 
 abbrev pub phase_told : Opening → List Call → Phase
-phase_told o cs = or_else (latest leads_to cs) (opening_phase o)
+phase_told o cs = unwrap_or (latest leads_to cs) (opening_phase o)
 
 -- ---- the postings: in order, numbered from 1, each with the quantity of the last revision of its number, else as posted
 abbrev pub quantity_if : Option Revision → ℕ → Option KilowattHours
 quantity_if None n = None
-quantity_if (Some v) n = cond (equal v.number (pos n)) (Some v.quantity) None
+quantity_if (Some v) n = cond (int_eq v.number (pos n)) (Some v.quantity) None
 
 -- the last quantity to which a number was revised
 abbrev pub revised_to : (Call → Option Revision) → List Call → ℕ → Option KilowattHours
@@ -57,8 +54,8 @@ number_from n f (x ∷ xs) = f n x ∷ number_from (suc n) f xs
 
 abbrev pub standing : List Call → Postings
 standing cs = record {
-  records = number_from 1 (λ n r. revised_record (or_else (revised_to record_revised cs n) r.quantity) r) (in_order record_posted cs);
-  bilaterals = number_from 1 (λ n x. revised_bilateral (or_else (revised_to bilateral_revised cs n) x.quantity) x) (in_order bilateral_posted cs);
+  records = number_from 1 (λ n r. revised_record (unwrap_or (revised_to record_revised cs n) r.quantity) r) (in_order record_posted cs);
+  bilaterals = number_from 1 (λ n x. revised_bilateral (unwrap_or (revised_to bilateral_revised cs n) x.quantity) x) (in_order bilateral_posted cs);
 }
 
 -- ---- the settlings, the last one first: each with the postings as they stood, and the terms that it brought
@@ -117,11 +114,8 @@ cause_after o cs c = first_cause o (phase_told o cs) (standing cs) c
 abbrev pub reply_after : Opening → List Call → Call → Answer
 reply_after o cs (post_record r) = numbered (suc (length (in_order record_posted cs)))
 reply_after o cs (post_bilateral x) = numbered (suc (length (in_order bilateral_posted cs)))
-reply_after o cs (revise_record n q) = done
-reply_after o cs (revise_bilateral n q) = done
-reply_after o cs close = done
 reply_after o cs (settle t) = fund_adjusted (fund_by (participant_count o) (settlings (settle t ∷ cs)) -ℤ fund_by (participant_count o) (settlings cs))
-reply_after o cs reopen = done
+reply_after o cs _ = done
 
 abbrev pub answer_by : Answer → (Cause → Answer) → Option Cause → Answer
 answer_by reply refusal None = reply

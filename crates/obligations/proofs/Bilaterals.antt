@@ -2,9 +2,9 @@
 use Rattle.std.proofs.Common.{◌≡◌, ◌≤◌, cond, List, [], ◌∷◌, ◌++◌, ℤ, pos, ◌+ℤ◌, ◌-ℤ◌, ◌*ℤ◌, neg_ℤ, sym, refl, ap, ◌∙◌, arith}
 use lib.IntN.{zero-*ℤ}
 use Rattle.std.specs.List.{AllByRecursion}
-use Rattle.measures.specs.Signs.{equal}
+use Rattle.std.specs.Ordering.{int_eq}
 use Rattle.measures.specs.declared.code.LocationCode.{LocationCode}
-use Rattle.measures.proofs.Numbers.{equal_self, equal_apart}
+use Rattle.measures.proofs.Numbers.{int_eq_self, int_eq_apart}
 use Rattle.prices.specs.declared.price.Market.{Market}
 use Rattle.postings.specs.declared.bilateral.Bilateral.{Bilateral}
 use Rattle.postings.specs.declared.record.Record.{Record}
@@ -22,18 +22,18 @@ postings_of rs xs = record { records = rs; bilaterals = xs }
 
 -- ---- one element's part
 abbrev part : ℤ → ℤ → ℤ → ℤ → ℤ
-part who p effect g = cond (equal who p) effect (pos 0) *ℤ g
+part who p effect g = cond (int_eq who p) effect (pos 0) *ℤ g
 
 part_own : (p effect g : ℤ) → part p p effect g ≡ effect *ℤ g
-part_own p effect g = ap (λ t. cond t effect (pos 0) *ℤ g) (equal_self p)
+part_own p effect g = ap (λ t. cond t effect (pos 0) *ℤ g) (int_eq_self p)
 
 part_none : (who p effect g : ℤ) → ¬ (who ≡ p) → part who p effect g ≡ pos 0
-part_none who p effect g n = ap (λ t. cond t effect (pos 0) *ℤ g) (equal_apart who p n) ∙ zero-*ℤ g
+part_none who p effect g n = ap (λ t. cond t effect (pos 0) *ℤ g) (int_eq_apart who p n) ∙ zero-*ℤ g
 
 worth_insert : {X : Type 0} (who : X → ℤ) (location : X → LocationCode) (effect : X → ℤ) (g : LocationCode → ℤ) (p : ℤ) (xs : List X) (x : X) (ys : List X) →
     worth_of who location effect g p (xs ++ x ∷ ys) ≡ worth_of who location effect g p (xs ++ ys) +ℤ part (who x) p (effect x) (g (location x))
 worth_insert who location effect g p xs x ys =
-    let f : _ → ℤ = λ y. cond (equal (who y) p) (effect y) (pos 0) *ℤ g (location y) in
+    let f : _ → ℤ = λ y. cond (int_eq (who y) p) (effect y) (pos 0) *ℤ g (location y) in
     omega (arith, linear, sum_append f xs (x ∷ ys), sum_append f xs ys)
 
 worth_none : {X : Type 0} (who : X → ℤ) (location : X → LocationCode) (effect : X → ℤ) (g : LocationCode → ℤ) (p : ℤ) (xs : List X) → AllByRecursion (λ x. ¬ (who x ≡ p)) xs → worth_of who location effect g p xs ≡ pos 0

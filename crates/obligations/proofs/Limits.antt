@@ -4,7 +4,7 @@ use borrow.Author.Differences.{ints}
 use Rattle.std.specs.List.{AllByRecursion}
 use Rattle.std.proofs.lemmas.List.Sums.{sum_by-cons}
 use Rattle.std.proofs.lemmas.Bool.{ltb-true}
-use Rattle.measures.specs.Signs.{equal}
+use Rattle.std.specs.Ordering.{int_eq}
 use Rattle.measures.specs.declared.code.LocationCode.{LocationCode}
 use Rattle.prices.specs.Quotes.{Quote}
 use Rattle.prices.specs.declared.price.Market.{Market}
@@ -154,15 +154,15 @@ module _ (P : ℕ) (b : Postings) (k : Kept P b) where
   -- a sum of parts of which none is below 0
   worth_at_least : {X : Type 0} (who : X → ℤ) (location : X → LocationCode) (effect : X → ℤ) (p : ℤ) (xs : List X) → AllByRecursion (λ x. pos 0 ≤ℤ effect x) xs → pos 0 ≤ℤ worth_of who location effect each p xs
   worth_at_least who location effect p [] a = omega (arith, linear)
-  worth_at_least who location effect p (x ∷ xs) a = more (cond (equal (who x) p) (effect x) (pos 0)) (worth_of who location effect each p xs) (at_least_zero (equal (who x) p) (effect x) a.0) (worth_at_least who location effect p xs a.1)
+  worth_at_least who location effect p (x ∷ xs) a = more (cond (int_eq (who x) p) (effect x) (pos 0)) (worth_of who location effect each p xs) (at_least_zero (int_eq (who x) p) (effect x) a.0) (worth_at_least who location effect p xs a.1)
     where
       more : (u v : ℤ) → pos 0 ≤ℤ u → pos 0 ≤ℤ v → pos 0 ≤ℤ (u *ℤ pos 1 +ℤ v)
       more u v h l = omega (arith, linear, mul_one u)
 
   worth_neg : {X : Type 0} (who : X → ℤ) (location : X → LocationCode) (effect : X → ℤ) (p : ℤ) (xs : List X) → worth_of who location (λ x. neg_ℤ (effect x)) each p xs ≡ neg_ℤ (worth_of who location effect each p xs)
   worth_neg who location effect p xs =
-      sum_same (λ x. cond (equal (who x) p) (neg_ℤ (effect x)) (pos 0) *ℤ pos 1) (λ x. neg_ℤ (cond (equal (who x) p) (effect x) (pos 0) *ℤ pos 1)) (λ x. turned (equal (who x) p) (effect x)) xs
-      ∙ sum_neg (λ x. cond (equal (who x) p) (effect x) (pos 0) *ℤ pos 1) xs
+      sum_same (λ x. cond (int_eq (who x) p) (neg_ℤ (effect x)) (pos 0) *ℤ pos 1) (λ x. neg_ℤ (cond (int_eq (who x) p) (effect x) (pos 0) *ℤ pos 1)) (λ x. turned (int_eq (who x) p) (effect x)) xs
+      ∙ sum_neg (λ x. cond (int_eq (who x) p) (effect x) (pos 0) *ℤ pos 1) xs
     where
       turned : (c : Bool) (e : ℤ) → cond c (neg_ℤ e) (pos 0) *ℤ pos 1 ≡ neg_ℤ (cond c e (pos 0) *ℤ pos 1)
       turned true e = omega (arith, linear, mul_one e, mul_one (neg_ℤ e))

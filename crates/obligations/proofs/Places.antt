@@ -5,10 +5,10 @@ use borrow.Author.Differences.{ints}
 use Rattle.std.specs.List.{AllByRecursion}
 use Rattle.std.proofs.lemmas.Bool.{cond-true, cond-false, or_cases, or_left, or_right}
 use Rattle.measures.specs.Codes.{same_code}
-use Rattle.measures.specs.Signs.{equal}
+use Rattle.std.specs.Ordering.{int_eq}
 use Rattle.measures.specs.declared.code.LocationCode.{LocationCode}
 use Rattle.measures.proofs.Codes.{same_self, same_code_is}
-use Rattle.measures.proofs.Numbers.{equal_true, equal_self, equal_apart}
+use Rattle.measures.proofs.Numbers.{int_eq_true, int_eq_self, int_eq_apart}
 use Rattle.postings.specs.declared.bilateral.Bilateral.{Bilateral}
 use Rattle.postings.specs.declared.record.Record.{Record}
 use Rattle.obligations.specs.Charges.{from, participants}
@@ -121,29 +121,29 @@ bilaterals_once b =
 
 -- ---- participants
 module _ (g : ℤ → ℤ) where
-  absent_sum : (q k n : ℕ) → q < k → sum_where (equal (pos q)) g (from k n) ≡ pos 0
+  absent_sum : (q k n : ℕ) → q < k → sum_where (int_eq (pos q)) g (from k n) ≡ pos 0
   absent_sum q k zero h = refl
   absent_sum q k (suc n) h =
-      let e : equal (pos q) (pos k) ≡ false = equal_apart (pos q) (pos k) (λ d. apart' d) in
-      omega (arith, linear, cond-false (equal (pos q) (pos k)) (g (pos k)) (pos 0) e, absent_sum q (suc k) n (omega arith))
+      let e : int_eq (pos q) (pos k) ≡ false = int_eq_apart (pos q) (pos k) (λ d. apart' d) in
+      omega (arith, linear, cond-false (int_eq (pos q) (pos k)) (g (pos k)) (pos 0) e, absent_sum q (suc k) n (omega arith))
     where
       apart' : pos q ≡ pos k → ⊥
       apart' d = omega (arith, ints, h)
 
-  present_sum : (q k n : ℕ) → k ≤ q → q < k + n → sum_where (equal (pos q)) g (from k n) ≡ g (pos q)
+  present_sum : (q k n : ℕ) → k ≤ q → q < k + n → sum_where (int_eq (pos q)) g (from k n) ≡ g (pos q)
   present_sum q k zero h l = absurd (omega arith)
-  present_sum q k (suc n) h l = go (equal (pos q) (pos k)) refl (λ a b. present_sum q (suc k) n a b)
+  present_sum q k (suc n) h l = go (int_eq (pos q) (pos k)) refl (λ a b. present_sum q (suc k) n a b)
     where
-      differ : equal (pos q) (pos k) ≡ false → ¬ (q ≡ k)
-      differ e d = let z : ◌≡◌ {A = ℕ} 0 1 = cc (equal_self (pos k), e, d) in omega arith
+      differ : int_eq (pos q) (pos k) ≡ false → ¬ (q ≡ k)
+      differ e d = let z : ◌≡◌ {A = ℕ} 0 1 = cc (int_eq_self (pos k), e, d) in omega arith
 
-      go : (t : Bool) → equal (pos q) (pos k) ≡ t → (suc k ≤ q → q < suc k + n → sum_where (equal (pos q)) g (from (suc k) n) ≡ g (pos q)) → cond (equal (pos q) (pos k)) (g (pos k)) (pos 0) +ℤ sum_where (equal (pos q)) g (from (suc k) n) ≡ g (pos q)
+      go : (t : Bool) → int_eq (pos q) (pos k) ≡ t → (suc k ≤ q → q < suc k + n → sum_where (int_eq (pos q)) g (from (suc k) n) ≡ g (pos q)) → cond (int_eq (pos q) (pos k)) (g (pos k)) (pos 0) +ℤ sum_where (int_eq (pos q)) g (from (suc k) n) ≡ g (pos q)
       go true e ih =
-          let same : pos k ≡ pos q = equal_true (pos q) (pos k) e in
-          omega (arith, linear, cond-true (equal (pos q) (pos k)) (g (pos k)) (pos 0) e, ap g same, absent_sum q (suc k) n (omega (arith, ints)))
-      go false e ih = let d : ¬ (q ≡ k) = differ e in omega (arith, linear, cond-false (equal (pos q) (pos k)) (g (pos k)) (pos 0) e, ih (omega arith) (omega arith))
+          let same : pos k ≡ pos q = int_eq_true (pos q) (pos k) e in
+          omega (arith, linear, cond-true (int_eq (pos q) (pos k)) (g (pos k)) (pos 0) e, ap g same, absent_sum q (suc k) n (omega (arith, ints)))
+      go false e ih = let d : ¬ (q ≡ k) = differ e in omega (arith, linear, cond-false (int_eq (pos q) (pos k)) (g (pos k)) (pos 0) e, ih (omega arith) (omega arith))
 
 -- a participant stands once among the participants
-pub participant_once : (P : ℕ) (p : ℤ) → Between (pos 1) (pos P) p → StandsOnce equal (participants P) p
+pub participant_once : (P : ℕ) (p : ℤ) → Between (pos 1) (pos P) p → StandsOnce int_eq (participants P) p
 participant_once P (pos q) h g = present_sum g q 1 P (omega (arith, ints, h.0)) (omega (arith, ints, h.1))
 participant_once P (negsuc q) h g = absurd (omega (arith, ints, h.0))

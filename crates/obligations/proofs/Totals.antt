@@ -3,7 +3,7 @@ use Rattle.std.proofs.Common.{◌≡◌, ℕ, zero, suc, ◌-◌, ◌≤◌, Boo
 use lib.IntN.{zero-*ℤ}
 use Rattle.std.specs.List.{AllByRecursion}
 use Rattle.std.proofs.lemmas.List.{length-map}
-use Rattle.measures.specs.Signs.{equal}
+use Rattle.std.specs.Ordering.{int_eq}
 use Rattle.measures.specs.declared.code.LocationCode.{LocationCode}
 use Rattle.prices.specs.Quotes.{Quote}
 use Rattle.prices.specs.declared.price.Market.{Market}
@@ -33,11 +33,11 @@ cond_times false v c = zero-*ℤ c
 pub worth_total : {X : Type 0} (who : X → ℤ) (location : X → LocationCode) (effect : X → ℤ) (g : LocationCode → ℤ) (P : ℕ) (xs : List X) → AllByRecursion (λ x. Between (pos 1) (pos P) (who x)) xs →
     sum_over (λ p. worth_of who location effect g p xs) (participants P) ≡ all_worth location effect g xs
 worth_total who location effect g P xs a =
-    sum_same (λ p. worth_of who location effect g p xs) (λ p. sum_over (λ x. cond (equal (who x) p) (effect x *ℤ g (location x)) (pos 0)) xs)
-    (λ p. sum_same (λ x. cond (equal (who x) p) (effect x) (pos 0) *ℤ g (location x)) (λ x. cond (equal (who x) p) (effect x *ℤ g (location x)) (pos 0)) (λ x. cond_times (equal (who x) p) (effect x) (g (location x))) xs) (participants P)
-    ∙ sum_by_key equal (participants P) who (λ x p. effect x *ℤ g (location x)) xs (once xs a)
+    sum_same (λ p. worth_of who location effect g p xs) (λ p. sum_over (λ x. cond (int_eq (who x) p) (effect x *ℤ g (location x)) (pos 0)) xs)
+    (λ p. sum_same (λ x. cond (int_eq (who x) p) (effect x) (pos 0) *ℤ g (location x)) (λ x. cond (int_eq (who x) p) (effect x *ℤ g (location x)) (pos 0)) (λ x. cond_times (int_eq (who x) p) (effect x) (g (location x))) xs) (participants P)
+    ∙ sum_by_key int_eq (participants P) who (λ x p. effect x *ℤ g (location x)) xs (once xs a)
   where
-    once : (xs : List _) → AllByRecursion (λ x. Between (pos 1) (pos P) (who x)) xs → AllByRecursion (λ x. StandsOnce equal (participants P) (who x)) xs
+    once : (xs : List _) → AllByRecursion (λ x. Between (pos 1) (pos P) (who x)) xs → AllByRecursion (λ x. StandsOnce int_eq (participants P) (who x)) xs
     once [] a = tt
     once (x ∷ xs) a = (participant_once P (who x) a.0, once xs a.1)
 

@@ -2,7 +2,7 @@
 use Rattle.std.proofs.Common.{◌≡◌, Bool, cond, List, ℤ, pos, ◌+ℤ◌, ◌-ℤ◌, ◌*ℤ◌, neg_ℤ, refl, ap, ◌∙◌, arith}
 use Rattle.std.specs.List.{AllByRecursion}
 use Rattle.measures.specs.Codes.{same_code}
-use Rattle.measures.specs.Signs.{equal}
+use Rattle.std.specs.Ordering.{int_eq}
 use Rattle.measures.specs.declared.code.LocationCode.{LocationCode}
 use Rattle.prices.specs.Quotes.{Quote}
 use Rattle.prices.specs.declared.price.Market.{Market}
@@ -108,9 +108,9 @@ module _ (b : Postings) (p : ℤ) (l : LocationCode) where
 over_locations : {X : Type 0} (who : X → ℤ) (location : X → LocationCode) (effect : X → ℤ) (g : LocationCode → ℤ) (p : ℤ) (ls : List LocationCode) (xs : List X) → AllByRecursion (λ x. StandsOnce same_code ls (location x)) xs →
     sum_over (λ l. sum_where (λ x. stands_at (who x) (location x) p l) effect xs *ℤ g l) ls ≡ worth_of who location effect g p xs
 over_locations who location effect g p ls xs a =
-    sum_same (λ l. sum_where (λ x. stands_at (who x) (location x) p l) effect xs *ℤ g l) (λ l. sum_where (λ x. same_code (location x) l) (λ x. cond (equal (who x) p) (effect x) (pos 0)) xs *ℤ g l)
-    (λ l. ap (λ z. z *ℤ g l) (where_split (λ x. equal (who x) p) (λ x. same_code (location x) l) effect xs)) ls
-    ∙ sum_by_key_times same_code ls location (λ x. cond (equal (who x) p) (effect x) (pos 0)) g xs a
+    sum_same (λ l. sum_where (λ x. stands_at (who x) (location x) p l) effect xs *ℤ g l) (λ l. sum_where (λ x. same_code (location x) l) (λ x. cond (int_eq (who x) p) (effect x) (pos 0)) xs *ℤ g l)
+    (λ l. ap (λ z. z *ℤ g l) (where_split (λ x. int_eq (who x) p) (λ x. same_code (location x) l) effect xs)) ls
+    ∙ sum_by_key_times same_code ls location (λ x. cond (int_eq (who x) p) (effect x) (pos 0)) g xs a
 
 -- positions times prices over all locations
 pub position_worth : (s : Position) (b : Postings) (g : LocationCode → ℤ) (p : ℤ) → sum_over (λ l. position s b p l *ℤ g l) (locations b) ≡ worth s b g p

@@ -1,6 +1,6 @@
 -- What one posting adds to a position of the participant that it concerns, and what all of them come to.
 use Rattle.std.specs.Prelude.{◌≡◌, cond, List, ℤ, pos, ◌+ℤ◌, ◌-ℤ◌, ◌*ℤ◌, neg_ℤ}
-use Rattle.measures.specs.Signs.{equal}
+use Rattle.std.specs.Ordering.{int_eq}
 use Rattle.measures.specs.declared.code.LocationCode.{LocationCode}
 use Rattle.prices.specs.Quotes.{Quote}
 use Rattle.prices.specs.declared.price.Market.{Market}
@@ -53,7 +53,7 @@ bilateral_effect deviation_position x = bilateral_of RealTimeLoad x +ℤ bilater
 -- ---- over all locations
 -- what those of a list that concern p come to: the effect of each, times what g gives at its location
 abbrev pub worth_of : {X : Type 0} → (X → ℤ) → (X → LocationCode) → (X → ℤ) → (LocationCode → ℤ) → ℤ → List X → ℤ
-worth_of who location effect g p xs = sum_over (λ x. cond (equal (who x) p) (effect x) (pos 0) *ℤ g (location x)) xs
+worth_of who location effect g p xs = sum_over (λ x. cond (int_eq (who x) p) (effect x) (pos 0) *ℤ g (location x)) xs
 
 abbrev pub records_worth : (Record → ℤ) → (LocationCode → ℤ) → ℤ → List Record → ℤ
 records_worth f g p rs = worth_of (λ r. r.participant) (λ r. r.location) f g p rs

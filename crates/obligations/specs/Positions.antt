@@ -1,7 +1,7 @@
 -- Postings, and the positions that they give a participant at a location.
 use Rattle.std.specs.Prelude.{Bool, cond, not, ◌&&◌, List, [], ◌∷◌, ◌++◌, map, ℤ, ◌+ℤ◌, ◌-ℤ◌}
 use Rattle.measures.specs.Codes.{same_code}
-use Rattle.measures.specs.Signs.{equal}
+use Rattle.std.specs.Ordering.{int_eq}
 use Rattle.measures.specs.declared.code.LocationCode.{LocationCode}
 use Rattle.prices.specs.declared.price.Market.{Market}
 use Rattle.prices.specs.declared.price.Market.TheVariants.{DayAhead, RealTime}
@@ -34,7 +34,7 @@ generates m k = same_market (record_market k) m && not (is_load k)
 
 -- of a participant, at a location
 abbrev pub stands_at : ℤ → LocationCode → ℤ → LocationCode → Bool
-stands_at who code p l = equal who p && same_code code l
+stands_at who code p l = int_eq who p && same_code code l
 
 -- what participant p has at location l: load and generation in a market, and what it bought and sold by bilaterals of a kind
 abbrev pub load : Postings → Market → ℤ → LocationCode → ℤ

@@ -23,13 +23,9 @@ record_market RealTimePurchase = RealTime
 abbrev pub is_load : RecordKind → Bool
 is_load DemandBid = true
 is_load DecrementBid = true
-is_load SupplyOffer = false
-is_load IncrementOffer = false
-is_load DayAheadPurchase = false
 is_load MeteredLoad = true
 is_load ExternalSale = true
-is_load MeteredGeneration = false
-is_load RealTimePurchase = false
+is_load _ = false
 
 abbrev pub bilateral_market : BilateralKind → Market
 bilateral_market DayAheadEnergy = DayAhead
@@ -39,18 +35,12 @@ bilateral_market RealTimeLoad = RealTime
 -- the two are the same market
 abbrev pub same_market : Market → Market → Bool
 same_market DayAhead DayAhead = true
-same_market DayAhead RealTime = false
-same_market RealTime DayAhead = false
 same_market RealTime RealTime = true
+same_market _ _ = false
 
 -- the two are the same kind of bilateral
 abbrev pub same_kind : BilateralKind → BilateralKind → Bool
 same_kind DayAheadEnergy DayAheadEnergy = true
-same_kind DayAheadEnergy RealTimeEnergy = false
-same_kind DayAheadEnergy RealTimeLoad = false
-same_kind RealTimeEnergy DayAheadEnergy = false
 same_kind RealTimeEnergy RealTimeEnergy = true
-same_kind RealTimeEnergy RealTimeLoad = false
-same_kind RealTimeLoad DayAheadEnergy = false
-same_kind RealTimeLoad RealTimeEnergy = false
 same_kind RealTimeLoad RealTimeLoad = true
+same_kind _ _ = false

@@ -8,21 +8,10 @@ use Rattle.postings.specs.declared.phase.Phase.TheVariants.{Void, DayAheadOpen, 
 -- the two are the same phase
 abbrev pub same_phase : Phase → Phase → Bool
 same_phase Void Void = true
-same_phase Void DayAheadOpen = false
-same_phase Void RealTimeOpen = false
-same_phase Void Settled = false
-same_phase DayAheadOpen Void = false
 same_phase DayAheadOpen DayAheadOpen = true
-same_phase DayAheadOpen RealTimeOpen = false
-same_phase DayAheadOpen Settled = false
-same_phase RealTimeOpen Void = false
-same_phase RealTimeOpen DayAheadOpen = false
 same_phase RealTimeOpen RealTimeOpen = true
-same_phase RealTimeOpen Settled = false
-same_phase Settled Void = false
-same_phase Settled DayAheadOpen = false
-same_phase Settled RealTimeOpen = false
 same_phase Settled Settled = true
+same_phase _ _ = false
 
 -- the phase in which postings of a market are taken and revised
 abbrev pub open_phase : Market → Phase
