@@ -10,7 +10,7 @@ use Rattle.prices.specs.Rows.{components_in, every, fits_energy, held, has_one_e
 use Rattle.prices.specs.declared.price.Market.{Market}
 use Rattle.prices.specs.declared.price.Price.{Price}
 use Rattle.prices.specs.declared.row.PriceRow.{PriceRow}
-use Rattle.prices.proofs.Codes.{same_self}
+use Rattle.measures.proofs.Codes.{same_self}
 use Rattle.prices.specs.Found.{found_new, found_other, in_range_some}
 use Rattle.prices.specs.Guarded.{some_value}
 use Rattle.prices.specs.Prices.{priced_congestion, priced_energy, priced_loss}

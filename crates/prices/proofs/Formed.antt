@@ -17,7 +17,7 @@ use Rattle.prices.specs.declared.price.Market.{Market}
 use Rattle.prices.specs.declared.price.Market.TheVariants.{DayAhead, RealTime}
 use Rattle.prices.specs.declared.price.Price.{Price}
 use Rattle.prices.proofs.Accepted.{unless_none}
-use Rattle.prices.proofs.Codes.{same_self}
+use Rattle.measures.proofs.Codes.{same_self}
 use Rattle.prices.proofs.Failing.{none_lacks, none_out}
 use Rattle.prices.specs.Guarded.{some_value}
 use Rattle.prices.specs.Layered.{components_some, laid_push, priced_both}

@@ -1,11 +1,13 @@
 -- Steps of a look-up in rows, and what it finds.
-use Rattle.std.specs.Prelude.{◌≡◌, ℕ, ◌+◌, ◌<◌, ◌≤◌, Bool, true, false, cond, ◌||◌, List, [], ◌∷◌, ◌++◌, length, get_or, drop, ℤ, pos, negsuc, is_some, Some, None, slice_index_or, refl}
+use Rattle.std.specs.Prelude.{◌≡◌, ℕ, ◌+◌, ◌<◌, ◌≤◌, Bool, true, false, cond, ◌||◌, List, [], ◌∷◌, ◌++◌, length, get_or, drop, is_some, Some, None, slice_index_or, refl}
 use Rattle.std.proofs.Common.{sym, ◌∙◌, ap, arith}
 use Rattle.std.proofs.lemmas.List.{at_drop_more, at_drop_all}
-use Rattle.std.proofs.lemmas.Bool.{and_parts, cond-true, cond-false, eqb-true, or_left}
+use Rattle.std.proofs.lemmas.Bool.{and_parts, cond-true, cond-false, or_left}
 use Rattle.measures.specs.Codes.{same_code}
 use Rattle.measures.specs.declared.code.LocationCode.{LocationCode}
-use Rattle.prices.specs.Rows.{components_in, components_in_range, equal, every, held, has_one_energy, price_of, row_in_range, row_quote, same_energy}
+use Rattle.measures.proofs.Numbers.{int_eq_true}
+use Rattle.std.specs.Ordering.{int_eq}
+use Rattle.prices.specs.Rows.{components_in, components_in_range, every, held, has_one_energy, price_of, row_in_range, row_quote, same_energy}
 use Rattle.prices.specs.declared.price.Market.{Market}
 use Rattle.prices.specs.declared.price.Market.TheVariants.{DayAhead, RealTime}
 use Rattle.prices.specs.declared.price.Price.{Price}
@@ -62,15 +64,9 @@ found_both (r ∷ rs) c h =
     here true x y = x
     here false x y = y
 
-equal_true : (a b : ℤ) → equal a b ≡ true → b ≡ a
-equal_true (pos a) (pos b) h = ap pos (sym (eqb-true a b h))
-equal_true (pos a) (negsuc b) h = let z : ◌≡◌ {A = ℕ} 0 1 = cc in absurd (omega arith)
-equal_true (negsuc a) (pos b) h = let z : ◌≡◌ {A = ℕ} 0 1 = cc in absurd (omega arith)
-equal_true (negsuc a) (negsuc b) h = ap negsuc (sym (eqb-true a b h))
-
 same_in : (m : Market) (f r : PriceRow) → same_energy f r ≡ true → (components_in r m).energy ≡ (components_in f m).energy
-same_in DayAhead f r h = equal_true _ _ (and_parts _ _ h).0
-same_in RealTime f r h = equal_true _ _ (and_parts (equal f.day_ahead.energy r.day_ahead.energy) _ h).1
+same_in DayAhead f r h = int_eq_true _ _ (and_parts _ _ h).0
+same_in RealTime f r h = int_eq_true _ _ (and_parts (int_eq f.day_ahead.energy r.day_ahead.energy) _ h).1
 
 -- a price found in rows with the energy components of f has them too
 rest_energy : (m : Market) (f : PriceRow) (rs : List PriceRow) (c : LocationCode) (p : Price) → every (same_energy f) rs ≡ true → row_quote rs c m ≡ Some p → p.energy ≡ (components_in f m).energy

@@ -6,14 +6,14 @@ use Rattle.measures.specs.declared.fault.Fault.{Fault}
 use Rattle.measures.specs.declared.fault.Layer.TheVariants.{Price}
 
 -- a fault that the price layer finds
-abbrev pub price_fault : Cause → ℕ → Fault
-price_fault c k = fault c Price k
+abbrev pub price_fault : Cause → Option ℕ → Fault
+price_fault c place = fault c Price place
 
 -- refused for this cause unless the test passes; then the next test decides
 abbrev pub unless : Bool → Cause → Option Fault → Option Fault
-unless test c next = cond test next (Some (price_fault c 0))
+unless test c next = cond test next (Some (price_fault c None))
 
 -- refused for this cause at the place, where there is one; else the next test decides
 abbrev pub where_at : Option ℕ → Cause → Option Fault → Option Fault
-where_at (Some k) c next = Some (price_fault c k)
+where_at (Some k) c next = Some (price_fault c (Some k))
 where_at None c next = next

@@ -1,5 +1,6 @@
 -- Price rows: what a list of rows says of a code, and which row may be added.
-use Rattle.std.specs.Prelude.{Bool, true, false, cond, not, ◌&&◌, ◌||◌, List, [], ◌∷◌, length, ℤ, pos, negsuc, None, Option, ◌==◌, nat_lt}
+use Rattle.std.specs.Prelude.{Bool, true, false, cond, not, ◌&&◌, ◌||◌, List, [], ◌∷◌, length, None, Option, nat_lt}
+use Rattle.std.specs.Ordering.{int_eq}
 use Rattle.measures.specs.Codes.{well_formed, same_code}
 use Rattle.measures.specs.declared.code.LocationCode.{LocationCode}
 use Rattle.measures.specs.declared.fault.Cause.TheVariants.{MalformedCode, ComponentOutOfRange, OtherEnergyComponent, PricedAlready, SourceFull}
@@ -45,16 +46,9 @@ components_in_range x = in_range x.energy && (in_range x.congestion && in_range 
 abbrev pub row_in_range : PriceRow → Bool
 row_in_range r = components_in_range r.day_ahead && components_in_range r.real_time
 
--- the two numbers are equal
-abbrev pub equal : ℤ → ℤ → Bool
-equal (pos a) (pos b) = a == b
-equal (pos a) (negsuc b) = false
-equal (negsuc a) (pos b) = false
-equal (negsuc a) (negsuc b) = a == b
-
 -- the two rows have the same energy component in each market
 abbrev pub same_energy : PriceRow → PriceRow → Bool
-same_energy f r = equal f.day_ahead.energy r.day_ahead.energy && equal f.real_time.energy r.real_time.energy
+same_energy f r = int_eq f.day_ahead.energy r.day_ahead.energy && int_eq f.real_time.energy r.real_time.energy
 
 -- the first row fixes the energy components
 abbrev pub fits_energy : List PriceRow → PriceRow → Bool

@@ -4,8 +4,8 @@ ghost use Rattle.prices.specs.Refusals.{price_fault};
 
 use measures::fault::{Cause, Fault, Layer};
 
-// A fault of the price layer; place 0 says that there is none.
-pub(crate) fn price_fault(cause: Cause, place: usize) -> Fault
+// A fault of the price layer, at a place where it has one.
+pub(crate) fn price_fault(cause: Cause, place: Option<usize>) -> Fault
     ensures { result ≡ price_fault cause place }
 {
     Fault::new(cause, Layer::Price, place)

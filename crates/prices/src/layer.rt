@@ -65,7 +65,7 @@ fn look_up<S: PriceSource>(
 {
     let mut said = below.price(code, market);
     for group in groups {
-        if group.code.same(code) {
+        if group.code == *code {
             said = mean_price(below, group.members(), market);
         }
     }
@@ -122,24 +122,24 @@ fn refusal<S: PriceSource>(
     ensures { result ≡ form_refusal (S.quote below.now) groups.now code.now members.now }
 {
     if !code.is_well_formed() {
-        return Some(price_fault(Cause::MalformedCode, 0));
+        return Some(price_fault(Cause::MalformedCode, None));
     }
     if quote_over(below, groups, code, Market::DayAhead).is_some() {
-        return Some(price_fault(Cause::PricedAlready, 0));
+        return Some(price_fault(Cause::PricedAlready, None));
     }
     if !(1 <= members.len() && members.len() <= MOST_MEMBERS) {
-        return Some(price_fault(Cause::GroupOutOfRange, 0));
+        return Some(price_fault(Cause::GroupOutOfRange, None));
     }
     if let Some(place) = first_out_of_range(members) {
-        return Some(price_fault(Cause::GroupOutOfRange, place));
+        return Some(price_fault(Cause::GroupOutOfRange, Some(place)));
     }
     if let Some(place) = first_without_price(below, members) {
-        return Some(price_fault(Cause::MemberWithoutPrice, place));
+        return Some(price_fault(Cause::MemberWithoutPrice, Some(place)));
     }
     if groups.len() < MOST_GROUPS {
         None
     } else {
-        Some(price_fault(Cause::SourceFull, 0))
+        Some(price_fault(Cause::SourceFull, None))
     }
 }
 

@@ -28,7 +28,7 @@ fn find(rows: &[PriceRow], code: &LocationCode, market: Market) -> Option<Price>
     ensures { result ≡ row_quote rows.now code.now market }
 {
     for row in rows {
-        if row.code.same(code) {
+        if row.code == *code {
             return price_in(row, market);
         }
     }
@@ -50,7 +50,7 @@ fn holds(rows: &[PriceRow], code: &LocationCode) -> bool
     ensures { result ≡ holds_code rows.now code.now }
 {
     for row in rows {
-        if row.code.same(code) {
+        if row.code == *code {
             return true;
         }
     }
@@ -83,20 +83,20 @@ pub(crate) fn refusal(rows: &[PriceRow], row: &PriceRow) -> Option<Fault>
     ensures { result ≡ row_refusal rows.now row.now }
 {
     if !row.code.is_well_formed() {
-        return Some(price_fault(Cause::MalformedCode, 0));
+        return Some(price_fault(Cause::MalformedCode, None));
     }
     if !(are_in_range(&row.day_ahead) && are_in_range(&row.real_time)) {
-        return Some(price_fault(Cause::ComponentOutOfRange, 0));
+        return Some(price_fault(Cause::ComponentOutOfRange, None));
     }
     if !has_their_energy(rows, row) {
-        return Some(price_fault(Cause::OtherEnergyComponent, 0));
+        return Some(price_fault(Cause::OtherEnergyComponent, None));
     }
     if holds(rows, &row.code) {
-        return Some(price_fault(Cause::PricedAlready, 0));
+        return Some(price_fault(Cause::PricedAlready, None));
     }
     if rows.len() < MOST_ROWS {
         None
     } else {
-        Some(price_fault(Cause::SourceFull, 0))
+        Some(price_fault(Cause::SourceFull, None))
     }
 }

@@ -35,14 +35,14 @@ impl SinglePrice {
     pub fn new(day_ahead: i64, real_time: i64) -> Result<SinglePrice, Fault>
         ensures { elim result [
           | Ok s ↦ ((in_range day_ahead && in_range real_time) ≡ true) × SaysAlone (single_quote s) day_ahead real_time
-          | Err f ↦ ((in_range day_ahead && in_range real_time) ≡ false) × (f ≡ price_fault ComponentOutOfRange 0)
+          | Err f ↦ ((in_range day_ahead && in_range real_time) ≡ false) × (f ≡ price_fault ComponentOutOfRange None)
         ] }
     {
         let Some(day_ahead) = energy_alone(day_ahead) else {
-            return Err(faults::price_fault(Cause::ComponentOutOfRange, 0));
+            return Err(faults::price_fault(Cause::ComponentOutOfRange, None));
         };
         let Some(real_time) = energy_alone(real_time) else {
-            return Err(faults::price_fault(Cause::ComponentOutOfRange, 0));
+            return Err(faults::price_fault(Cause::ComponentOutOfRange, None));
         };
         Ok(SinglePrice {
             day_ahead,

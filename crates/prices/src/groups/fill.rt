@@ -13,11 +13,11 @@ use std::alloc::Global;
 impl GroupTable {
     // A table with no groups; refused only for want of memory.
     pub fn new(heap: Global) -> Result<GroupTable, Fault>
-        ensures { elim result [ Ok t ↦ groups_of t ≡ [] | Err f ↦ f ≡ price_fault OutOfMemory 0 ] }
+        ensures { elim result [ Ok t ↦ groups_of t ≡ [] | Err f ↦ f ≡ price_fault OutOfMemory None ] }
     {
         match Vec::with_capacity(heap, MOST_GROUPS) {
             Ok(groups) => Ok(GroupTable { groups }),
-            Err(_) => Err(faults::price_fault(Cause::OutOfMemory, 0)),
+            Err(_) => Err(faults::price_fault(Cause::OutOfMemory, None)),
         }
     }
 

@@ -22,11 +22,11 @@ use std::alloc::Global;
 impl PriceTable {
     // A table with no rows; refused only for want of memory.
     pub fn new(heap: Global) -> Result<PriceTable, Fault>
-        ensures { elim result [ Ok t ↦ rows_of t ≡ [] | Err f ↦ f ≡ price_fault OutOfMemory 0 ] }
+        ensures { elim result [ Ok t ↦ rows_of t ≡ [] | Err f ↦ f ≡ price_fault OutOfMemory None ] }
     {
         match Vec::with_capacity(heap, rows::MOST_ROWS) {
             Ok(rows) => Ok(PriceTable { rows }),
-            Err(_) => Err(faults::price_fault(Cause::OutOfMemory, 0)),
+            Err(_) => Err(faults::price_fault(Cause::OutOfMemory, None)),
         }
     }
 

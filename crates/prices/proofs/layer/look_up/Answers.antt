@@ -7,7 +7,7 @@ use Rattle.prices.specs.declared.group.Group.{Group}
 use Rattle.prices.specs.declared.price.Price.{Price}
 use Rattle.prices.specs.Layered.{laid_end, laid_more, says}
 use Rattle.prices.proofs.layer.look_up.Goals as goal
-use Rattle.prices.proofs.layer.look_up.Goals.{then-same, else-same}
+use Rattle.prices.proofs.layer.look_up.Goals.{then-eq, else-eq}
 
 at_most_eight : (g : Group) → length (members_of g) ≤ 8
 at_most_eight g = let e = length-take g.count g.members in let h = g.few in omega arith
@@ -28,10 +28,10 @@ loop-group-preserved g c =
     let q = g.S.PriceSource.quote c.args.below.now in
     let rest : List Group = drop (c.loop-group.group-index + 1) c.args.groups.now in
     let after = sym (laid_more q c.args.code.now c.args.market c.loop-group.said c.args.groups.now c.loop-group.group-index c.group-item.result c.loop-group-test.true c.group-item.is) ∙ c.loop-group.invariant in
-    let said : c.if-same.said ≡ says q c.args.code.now c.args.market c.loop-group.said c.group-item.result =
-    elim c.if-same.branch [
-      | then-same w ↦ w.said-is ∙ (w.mean_price-said.ensures ∙ (ap (group_price q c.args.market) w.members.ensures ∙ sym (cond-true _ _ _ (sym w.if-same.ensures))))
-      | else-same w ↦ w.said-is ∙ sym (cond-false _ _ _ (sym w.if-same.ensures))
+    let said : c.if-eq.said ≡ says q c.args.code.now c.args.market c.loop-group.said c.group-item.result =
+    elim c.if-eq.branch [
+      | then-eq w ↦ w.said-is ∙ (w.mean_price-said.ensures ∙ (ap (group_price q c.args.market) w.members.ensures ∙ sym (cond-true _ _ _ (sym w.if-eq.ensures))))
+      | else-eq w ↦ w.said-is ∙ sym (cond-false _ _ _ (sym w.if-eq.ensures))
     ] in
     ap (λ (o : Option Price). laid_over q c.args.code.now c.args.market o rest) said ∙ after
 
