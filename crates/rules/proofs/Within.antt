@@ -33,6 +33,6 @@ fair_within t ws shares can fair i h =
     let v = get_or (sizes ws) i 0 in
     let w = sum (sizes ws) in
     let near = fair.near i k in
-    let all = subst (λ (z : ℤ). Near (nat_abs z) (share *ℤ z) (pos t *ℤ get_or ws i (pos 0))) (total_is 0 ws f.none_negative) near in
-    let own = subst (λ (z : ℤ). Near w (share *ℤ pos w) (pos t *ℤ z)) (weight_is 0 ws f.none_negative i) all in
+    let all = subst (λ (z : ℤ). Near (nat_abs z) (share *ℤ z) (pos t *ℤ get_or ws i (pos 0))) (total_is ws f.none_negative) near in
+    let own = subst (λ (z : ℤ). Near w (share *ℤ pos w) (pos t *ℤ z)) (weight_is ws f.none_negative i) all in
     one_share share t v w (get_or-le-sum_by (λ x. x) (sizes ws) i 0 (omega (arith, length_sizes ws))) own

@@ -1,5 +1,5 @@
 -- The test of a pool and weights, as plain facts.
-use Rattle.std.specs.Prelude.{◌≡◌, ℕ, ◌*◌, ◌<◌, ◌≤◌, true, List, length, ℤ, sum, unsigned_abs}
+use Rattle.std.specs.Prelude.{◌≡◌, ℕ, ◌*◌, ◌<◌, ◌≤◌, true, List, length, ℤ, sum, is_none, unsigned_abs}
 use Rattle.std.proofs.Common.{arith}
 use Rattle.std.proofs.lemmas.Bool.Decides.{nat_tests}
 use Rattle.rules.specs.Sharing.{first_negative, sizes, shareable}
@@ -9,7 +9,7 @@ pub record Facts (pool : ℤ) (ws : List ℤ) (places : ℕ) : Type 0 where
   pub each : places ≡ length ws
   pub some : 0 < length ws
   pub few : length ws ≤ 64
-  pub none_negative : first_negative ws ≡ 0
+  pub none_negative : is_none (first_negative ws) ≡ true
   pub positive : 0 < sum (sizes ws)
   pub bounded : sum (sizes ws) ≤ 2000000000
   pub product : unsigned_abs pool * sum (sizes ws) ≤ 9000000000000000000

@@ -1,5 +1,5 @@
 -- From the sizes of shares to signed shares, and from sizes of weights to weights.
-use Rattle.std.specs.Prelude.{◌≡◌, ℕ, zero, suc, ◌+◌, ◌*◌, ◌<◌, ◌≤◌, List, [], ◌∷◌, ◌++◌, map, length, take, ℤ, pos, negsuc, ◌+ℤ◌, ◌*ℤ◌, neg_ℤ, sum_by, sum, slice_index, slice_index_or, slice_set, unsigned_abs, refl}
+use Rattle.std.specs.Prelude.{◌≡◌, ℕ, zero, suc, ◌+◌, ◌*◌, ◌<◌, ◌≤◌, List, [], ◌∷◌, ◌++◌, map, length, take, ℤ, pos, negsuc, ◌+ℤ◌, ◌*ℤ◌, neg_ℤ, sum_by, sum, slice_index, slice_index_or, slice_set, unsigned_abs, is_none, true, refl}
 use Rattle.std.proofs.Math.IntN.{neg_ℤ-+ℤ}
 use Rattle.std.proofs.Common.{sym, ap, ◌∙◌, zero-mul, arith}
 use Rattle.std.proofs.lemmas.Int.{ints}
@@ -51,7 +51,7 @@ pub get_or_by_place : (part : ℕ → List ℕ → ℕ → ℕ) (pool : ℤ) (ws
 get_or_by_place part pool ws i h = get_or-map-range_with_len (λ i. signed pool (part (unsigned_abs pool) (sizes ws) i)) 0 (length ws) i i (pos 0) h (omega arith)
 
 -- a rule by places is fair if its sizes are
-pub fair_by_place : (part : ℕ → List ℕ → ℕ → ℕ) (pool : ℤ) (ws : List ℤ) → first_negative ws ≡ 0 → sum_by (part (unsigned_abs pool) (sizes ws)) (range_with_len 0 (length (sizes ws))) ≡ unsigned_abs pool → ((i : ℕ) → i < length (sizes ws) → (part (unsigned_abs pool) (sizes ws) i * sum (sizes ws) < unsigned_abs pool * slice_index (sizes ws) i + sum (sizes ws)) × (unsigned_abs pool * slice_index (sizes ws) i < part (unsigned_abs pool) (sizes ws) i * sum (sizes ws) + sum (sizes ws))) → Fair pool ws (by_place part pool ws)
+pub fair_by_place : (part : ℕ → List ℕ → ℕ → ℕ) (pool : ℤ) (ws : List ℤ) → is_none (first_negative ws) ≡ true → sum_by (part (unsigned_abs pool) (sizes ws)) (range_with_len 0 (length (sizes ws))) ≡ unsigned_abs pool → ((i : ℕ) → i < length (sizes ws) → (part (unsigned_abs pool) (sizes ws) i * sum (sizes ws) < unsigned_abs pool * slice_index (sizes ws) i + sum (sizes ws)) × (unsigned_abs pool * slice_index (sizes ws) i < part (unsigned_abs pool) (sizes ws) i * sum (sizes ws) + sum (sizes ws))) → Fair pool ws (by_place part pool ws)
 fair_by_place part pool ws none adds near =
     let ns = sizes ws in
     let size = unsigned_abs pool in
@@ -63,7 +63,7 @@ fair_by_place part pool ws none adds near =
       near =
           λ i h.
           let k : i < length ns = omega arith in
-          rw (get_or_by_place part pool ws i h, total_is 0 ws none, weight_is 0 ws none i) (near_signed pool (part size ns i) (slice_index ns i) (sum ns) (near i k).0 (near i k).1);
+          rw (get_or_by_place part pool ws i h, total_is ws none, weight_is ws none i) (near_signed pool (part size ns i) (slice_index ns i) (sum ns) (near i k).0 (near i k).1);
     }
 
 -- the step of a loop that writes the shares ys one after another

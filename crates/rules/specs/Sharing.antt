@@ -1,6 +1,7 @@
 -- Sharing rules: a list of shares for each pool of cents and list of weights.
-use Rattle.std.specs.Prelude.{◌≡◌, ℕ, suc, ◌+◌, ◌-◌, ◌*◌, ◌/◌, ◌%◌, ◌<◌, Bool, true, false, cond, ◌&&◌, ◌||◌, List, [], ◌∷◌, map, length, take, ℤ, pos, negsuc, ◌+ℤ◌, ◌*ℤ◌, ◌≤ℤ◌, Ok, Err, sum_by, sum, count_by, Result, ◌==◌, nat_le, nat_lt, slice_index, slice_index_or, unsigned_abs}
-use Rattle.std.specs.List.{range_with_len}
+use Rattle.std.specs.Prelude.{◌≡◌, ℕ, suc, ◌+◌, ◌-◌, ◌*◌, ◌/◌, ◌%◌, ◌<◌, Bool, true, false, cond, ◌&&◌, ◌||◌, List, [], ◌∷◌, map, length, take, ℤ, pos, negsuc, ◌+ℤ◌, ◌*ℤ◌, ◌≤ℤ◌, Ok, Err, sum_by, sum, count_by, Result, Option, None, is_none, option_map, ◌==◌, nat_le, nat_lt, slice_index, slice_index_or, unsigned_abs}
+use Rattle.std.specs.Int.{is_negative}
+use Rattle.std.specs.List.{position, range_with_len}
 use Rattle.measures.specs.Faults.{fault}
 use Rattle.measures.specs.declared.amounts.Cents.{Cents}
 use Rattle.measures.specs.declared.fault.Cause.TheVariants.{SharingLimits}
@@ -22,14 +23,9 @@ amounts = map (λ c. c.0)
 abbrev pub sizes : List ℤ → List ℕ
 sizes = map unsigned_abs
 
--- the place, counted from 1, of the first weight below 0, counting on from n; 0 where none is
-abbrev pub negative_from : ℕ → List ℤ → ℕ
-negative_from n [] = 0
-negative_from n (pos w ∷ ws) = negative_from (suc n) ws
-negative_from n (negsuc w ∷ ws) = suc n
-
-abbrev pub first_negative : List ℤ → ℕ
-first_negative = negative_from 0
+-- the place, counted from 1, of the first weight below 0
+abbrev pub first_negative : List ℤ → Option ℕ
+first_negative ws = option_map (λ i. i + 1) (position is_negative ws)
 
 -- 1 to 64 weights, and as many places to write to
 abbrev pub counted : List ℤ → ℕ → Bool
@@ -38,11 +34,11 @@ counted ws places = places == length ws && (nat_le 1 places && nat_le places 64)
 -- a pool can be shared: 1 to 64 weights, none below 0, their sum 1 to 2,000,000,000, size of the pool times their sum at most 9 × 10^18
 abbrev pub shareable : ℤ → List ℤ → ℕ → Bool
 shareable pool ws places =
-    counted ws places && (first_negative ws == 0 && (nat_le 1 (sum (sizes ws)) && (nat_le (sum (sizes ws)) 2000000000 && nat_le (unsigned_abs pool * sum (sizes ws)) 9000000000000000000)))
+    counted ws places && (is_none (first_negative ws) && (nat_le 1 (sum (sizes ws)) && (nat_le (sum (sizes ws)) 2000000000 && nat_le (unsigned_abs pool * sum (sizes ws)) 9000000000000000000)))
 
--- the refusal where it cannot: its place is the first weight below 0 where the count is right, else 0
+-- the refusal where it cannot: where the count is right, its place is the first weight below 0
 abbrev pub sharing_fault : List ℤ → ℕ → Fault
-sharing_fault ws places = fault SharingLimits Share (cond (counted ws places) (first_negative ws) 0)
+sharing_fault ws places = fault SharingLimits Share (cond (counted ws places) (first_negative ws) None)
 
 -- as many shares as weights; they add up to the pool; each share times all weights lies less than all weights from the pool times its weight
 pub record Fair (pool : ℤ) (weights shares : List ℤ) : Type 0 where

@@ -1,11 +1,13 @@
 -- Weights and their sizes: where no weight is below 0, each is its size.
-use Rattle.std.specs.Prelude.{◌≡◌, ℕ, zero, suc, ◌+◌, ◌<◌, ◌≤◌, true, false, List, [], ◌∷◌, length, take, ℤ, pos, negsuc, ◌+ℤ◌, sum, int_lt, slice_index, slice_index_or, unsigned_abs, refl}
+use Rattle.std.specs.Prelude.{◌≡◌, ℕ, zero, suc, ◌+◌, ◌<◌, ◌≤◌, true, false, List, [], ◌∷◌, length, take, ℤ, pos, negsuc, ◌+ℤ◌, sum, is_none, slice_index, slice_index_or, unsigned_abs, refl}
+use Rattle.std.specs.Int.{is_negative}
+use Rattle.std.specs.List.{position_or_len}
 use Rattle.std.proofs.Common.{sym, ap, ◌∙◌, add-one, arith}
 use Rattle.std.proofs.lemmas.List.{length-map, take_all}
 use Rattle.std.proofs.lemmas.List.Sums.{sum_by-cons, sum_by_more}
 use Rattle.std.proofs.lemmas.Bool.{both_ways}
 use Rattle.std.proofs.lemmas.Bool.Decides.{nat_tests}
-use Rattle.rules.specs.Sharing.{total, sizes, negative_from}
+use Rattle.rules.specs.Sharing.{total, sizes, first_negative}
 
 pub length_sizes : (ws : List ℤ) → length (sizes ws) ≡ length ws
 length_sizes ws = length-map ws unsigned_abs
@@ -24,23 +26,27 @@ sizes_more ws i h =
 pub sizes_all : (ws : List ℤ) (i : ℕ) → length ws ≤ i → sum (take i (sizes ws)) ≡ sum (sizes ws)
 sizes_all ws i h = ap sum (take_all i (sizes ws) (omega (arith, length_sizes ws)))
 
--- a weight below 0 is the first where none came before it
-pub negative_here : (n : ℕ) (w : ℤ) (ws : List ℤ) → int_lt w (pos 0) ≡ true → negative_from n (w ∷ ws) ≡ n + 1
-negative_here n (pos w) ws h = let no : int_lt (pos w) (pos 0) ≡ false = grind (arith, nat_tests) in absurd (both_ways (int_lt (pos w) (pos 0)) no h)
-negative_here n (negsuc w) ws h = omega arith
+-- where no weight is below 0, none comes before the end of the list
+passed : (ws : List ℤ) → is_none (first_negative ws) ≡ true → length ws ≤ position_or_len is_negative ws
+passed ws h = grind (arith, nat_tests)
 
--- and any other is passed over
-pub negative_past : (n : ℕ) (w : ℤ) (ws : List ℤ) → int_lt w (pos 0) ≡ false → negative_from n (w ∷ ws) ≡ negative_from (n + 1) ws
-negative_past n (pos w) ws h = ap (λ m. negative_from m ws) (sym (add-one n))
-negative_past n (negsuc w) ws h = absurd (both_ways (int_lt (negsuc w) (pos 0)) h refl)
+total_of : (ws : List ℤ) → length ws ≤ position_or_len is_negative ws → total ws ≡ pos (sum (sizes ws))
+total_of [] h = refl
+total_of (pos w ∷ ws) h =
+    let rest : length ws ≤ position_or_len is_negative ws = grind (arith, nat_tests) in
+    ap (λ z. pos w +ℤ z) (total_of ws rest) ∙ ap (λ m. pos m) (sym (sum_by-cons (λ x. x) w (sizes ws)))
+total_of (negsuc w ∷ ws) h = absurd (omega arith)
 
-pub total_is : (n : ℕ) (ws : List ℤ) → negative_from n ws ≡ 0 → total ws ≡ pos (sum (sizes ws))
-total_is n [] h = refl
-total_is n (pos w ∷ ws) h = ap (λ z. pos w +ℤ z) (total_is (suc n) ws h) ∙ ap (λ m. pos m) (sym (sum_by-cons (λ x. x) w (sizes ws)))
-total_is n (negsuc w ∷ ws) h = absurd (omega arith)
+weight_of : (ws : List ℤ) → length ws ≤ position_or_len is_negative ws → (i : ℕ) → slice_index_or ws i (pos 0) ≡ pos (slice_index (sizes ws) i)
+weight_of [] h i = refl
+weight_of (pos w ∷ ws) h zero = refl
+weight_of (pos w ∷ ws) h (suc i) =
+    let rest : length ws ≤ position_or_len is_negative ws = grind (arith, nat_tests) in
+    weight_of ws rest i
+weight_of (negsuc w ∷ ws) h i = absurd (omega arith)
 
-pub weight_is : (n : ℕ) (ws : List ℤ) → negative_from n ws ≡ 0 → (i : ℕ) → slice_index_or ws i (pos 0) ≡ pos (slice_index (sizes ws) i)
-weight_is n [] h i = refl
-weight_is n (pos w ∷ ws) h zero = refl
-weight_is n (pos w ∷ ws) h (suc i) = weight_is (suc n) ws h i
-weight_is n (negsuc w ∷ ws) h i = absurd (omega arith)
+pub total_is : (ws : List ℤ) → is_none (first_negative ws) ≡ true → total ws ≡ pos (sum (sizes ws))
+total_is ws h = total_of ws (passed ws h)
+
+pub weight_is : (ws : List ℤ) → is_none (first_negative ws) ≡ true → (i : ℕ) → slice_index_or ws i (pos 0) ≡ pos (slice_index (sizes ws) i)
+weight_is ws h = weight_of ws (passed ws h)

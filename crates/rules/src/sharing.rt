@@ -1,5 +1,7 @@
 // A sharing rule divides a pool of cents by weights.
 ghost use Rattle.std.specs.Prelude.{◌≡◌, ℕ, ◌*◌, ◌<◌, ◌≤◌, true, List, length, ℤ, sum, slice_index};
+ghost use Rattle.std.specs.Int.{is_negative};
+ghost use Rattle.std.specs.List.{position};
 ghost use Rattle.measures.specs.Faults.{fault};
 ghost use Rattle.measures.specs.declared.fault.Cause.TheVariants.{SharingLimits};
 ghost use Rattle.measures.specs.declared.fault.Layer.TheVariants.{Share};
@@ -32,31 +34,32 @@ const LARGEST_SUM: u128 = 2_000_000_000;
 // The largest product of the size of the pool and the sum of the weights.
 const LARGEST_PRODUCT: u128 = 9_000_000_000_000_000_000;
 
-// The place, counted from 1, of the first weight below 0; 0 where none is.
-fn first_negative(weights: &[i64]) -> usize
+// The index of the first weight below 0.
+fn negative_index(weights: &[i64]) -> Option<usize>
+    ensures { result ≡ position is_negative weights.now }
+{
+    weights.iter().position(|weight| weight.is_negative())
+}
+
+// The place, counted from 1, of the first weight below 0.
+fn first_negative(weights: &[i64]) -> Option<usize>
     ensures { result ≡ first_negative weights.now }
 {
-    for (i, weight) in weights.iter().enumerate() {
-        if *weight < 0 {
-            return i + 1;
-        }
-    }
-    0
+    negative_index(weights).map(|i| i + 1)
 }
 
 // The sum of the sizes of the weights, which fits for a list of any length.
 fn total_weight(weights: &[i64]) -> u128
     ensures { result ≡ sum (sizes weights.now) }
 {
-    let mut total: u128 = 0;
-    for weight in weights {
-        total += weight.unsigned_abs() as u128;
-    }
-    total
+    weights
+        .iter()
+        .map(|weight| u128::from(weight.unsigned_abs()))
+        .sum()
 }
 
-// The refusal of a pool and weights, with the place of the weight at fault or 0.
-fn refusal(place: usize) -> Fault
+// The refusal of a pool and weights, with the place of the weight at fault.
+fn refusal(place: Option<usize>) -> Fault
     ensures { result ≡ fault SharingLimits Share place }
 {
     Fault::new(Cause::SharingLimits, Layer::Share, place)
@@ -67,18 +70,18 @@ pub fn check_shareable(pool: Cents, weights: &[i64], places: usize) -> Result<u6
     ensures { Checked pool.0 weights.now places result }
 {
     if places != weights.len() || places < 1 || places > MOST_WEIGHTS {
-        return Err(refusal(0));
+        return Err(refusal(None));
     }
     let negative = first_negative(weights);
-    if negative > 0 {
+    if negative.is_some() {
         return Err(refusal(negative));
     }
     let total = total_weight(weights);
     if total < 1 || total > LARGEST_SUM {
-        return Err(refusal(0));
+        return Err(refusal(None));
     }
-    if pool.0.unsigned_abs() as u128 * total > LARGEST_PRODUCT {
-        return Err(refusal(0));
+    if u128::from(pool.0.unsigned_abs()) * total > LARGEST_PRODUCT {
+        return Err(refusal(None));
     }
     Ok(total as u64)
 }
