@@ -13,7 +13,7 @@ use Rattle.postings.specs.declared.phase.Phase.TheVariants.{Void, DayAheadOpen}
 use Rattle.obligations.specs.Charges.{Line, amount, fund}
 use Rattle.obligations.specs.Positions.{Postings}
 use Rattle.obligations.specs.Terms.{Terms}
-use Rattle.histories.specs.Calls.{Call, post_record, post_bilateral, revise_record, revise_bilateral, close, settle, reopen, Answer, numbered, done, fund_adjusted, refused, Revision, record_posted, bilateral_posted, record_revised, bilateral_revised, terms_brought, leads_to}
+use Rattle.histories.specs.Calls.{Call, post_record, post_bilateral, settle, Answer, numbered, done, fund_adjusted, refused, Revision, record_posted, bilateral_posted, record_revised, bilateral_revised, terms_brought, leads_to}
 use Rattle.histories.specs.Causes.{first_cause, hour_fault}
 
 -- ---- looking for calls of one sort
