@@ -125,7 +125,8 @@ def answer_text(answer):
     if answer[0] == "fund_adjusted":
         return f"fund_adjusted {number(answer[1])}"
     if answer[0] == "refused":
-        return f"refusal {CAUSES[answer[1]]} {answer[2]}"
+        place = f"(Some {answer[2]})" if answer[2] else "None"
+        return f"refusal {CAUSES[answer[1]]} {place}"
     return "done"
 
 
