@@ -1,4 +1,6 @@
 // Measures: one struct round a number for each, so that no amount of one is taken for another.
+// One struct with its unit as a type parameter is no plainer: an alias of it has no constructor, and a constant may not
+// call a function, so that `Cents(7)` could be written neither in code nor as a constant.
 ghost use Rattle.std.specs.Prelude.{◌≡◌, ℤ, ◌+ℤ◌, ◌-ℤ◌, FitsSigned};
 ghost use Rattle.std.specs.Int.{w64};
 
@@ -72,7 +74,8 @@ impl Add<Kilowatts> for Kilowatts {
     }
 }
 
-// A unit in which the weights of a shared line are counted.
+// A unit in which the weights of a shared line are counted. `Into<i64>` would be no plainer: it says what it gives by a
+// relation, and contracts list the numbers of units, for which they need the function.
 pub trait WeightUnit: Sized {
     // The number of units.
     ghost units: { Self → ℤ };

@@ -42,7 +42,7 @@ impl Opening {
         }
     }
 
-    // How many records the hour can hold.
+    // How many records the hour can hold. One function for both lists would be no plainer: it would be `min` itself.
     pub fn record_capacity(&self) -> usize
         ensures { result ≡ record_capacity self.now }
     {
