@@ -1,1 +1,3 @@
+pub mod Put
+pub mod Parts
 pub mod Within

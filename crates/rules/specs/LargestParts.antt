@@ -7,10 +7,10 @@ use Rattle.std.proofs.Math.Nat.{div-add-mod', mod-lt, add-mul, le_of_mul-le-mul_
 use native.Mathlib.Omega.{arith}
 use Rattle.std.specs.List.{range_with_len}
 use Rattle.std.proofs.lemmas.List.{take_all}
-use Rattle.std.proofs.lemmas.List.Sums.{sum_by_more, get_or-le-sum_by}
+use Rattle.std.proofs.lemmas.List.Sums.{sum-map, sum_by_more, get_or-le-sum_by}
 use Rattle.std.proofs.lemmas.Bool.{cases_lt}
 use Rattle.std.proofs.lemmas.Bool.Decides.{nat_tests}
-use Rattle.rules.specs.Sharing.{sizes, shareable, Fair, ahead, rank, rank_in, whole_part, remainder, left_over, largest_part, largest_remainder}
+use Rattle.rules.specs.Sharing.{sizes, shareable, Fair, ahead, rank, whole_part, remainder, remainders, left_over, largest_part, largest_remainder}
 use Rattle.rules.specs.Ranks.{upto, upto_is, upto_more, upto_grows, upto_le, upto_same, upto_add, upto_mul, mark, marks_le, ranked, below_is}
 use Rattle.rules.specs.Shareable.{shareable_facts}
 use Rattle.rules.specs.Shares.{fair_by_place}
@@ -115,56 +115,18 @@ module _ (t : ℕ) (ws : List ℕ) (p : 0 < sum ws) where
       product (suc zero) r w a b c = rw one-mul (omega arith)
       product (suc (suc e)) r w a b c = absurd (omega arith)
 
--- the whole parts of the first places, with one more, stay within the pool
-pub wholes_fit : (t : ℕ) (ws : List ℕ) → 0 < sum ws → (i : ℕ) → i < length ws → upto (whole_part t ws) i + whole_part t ws i ≤ t
-unfolding wholes
-wholes_fit t ws p i h = omega (arith, upto_more (whole_part t ws) i, upto_grows (whole_part t ws) (i + 1) (length ws) (omega arith), wholes_le t ws p)
-
--- the pool times one weight is at most the pool times all
-pub product_fits : (t : ℕ) (ws : List ℕ) (i : ℕ) → i < length ws → t * slice_index ws i ≤ t * sum ws
-product_fits t ws i h = mul-le-mul_left t (get_or-le-sum_by (λ x. x) ws i 0 h)
-
-pub rank_agrees : (t : ℕ) (ws rests : List ℕ) (n i : ℕ) → i < n → ((k : ℕ) → k < n → slice_index rests k ≡ remainder t ws k) → rank_in rests n i ≡ rank (remainder t ws) n i
-rank_agrees t ws rests n i h same =
-    upto_is (λ j. mark (ahead (λ j. slice_index rests j) i j)) n
-    ∙ upto_same (λ j. mark (ahead (λ j. slice_index rests j) i j)) (λ j. mark (ahead (remainder t ws) i j)) n (λ j l. let a = same i h in let b = same j l in rw (a, b) refl)
-    ∙ sym (upto_is (λ j. mark (ahead (remainder t ws) i j)) n)
+-- the remainders make up the cents left over
+pub remainders_are : (t : ℕ) (ws : List ℕ) → 0 < sum ws → sum (remainders t ws) ≡ left_over t ws * sum ws
+unfolding wholes rests
+remainders_are t ws p =
+    let all = sum-map (remainder t ws) (range_with_len 0 (length ws)) in
+    let same = upto_is (remainder t ws) (length ws) in
+    let apart = add-mul (left_over t ws) (wholes t ws p) (sum ws) in
+    let pool = ap (λ (m : ℕ). m * sum ws) (left_is t ws p) in
+    omega (arith, made_up t ws p)
 
 pub largest_fair : (pool : ℤ) (ws : List ℤ) → shareable pool ws (length ws) ≡ true → Fair pool ws (largest_remainder pool ws)
 largest_fair pool ws ok =
     let f = shareable_facts pool ws (length ws) ok in
     fair_by_place largest_part pool ws f.none_negative (largest_adds (unsigned_abs pool) (sizes ws) f.positive) (largest_near (unsigned_abs pool) (sizes ws) f.positive)
 
--- one turn of the loop that takes the whole parts, at a weight of size w
-pub record Turn (t : ℕ) (ws : List ℤ) (i whole w : ℕ) : Type 0 where
-  pub fits : t * w ≤ t * whole
-  pub part : t * w / whole ≡ whole_part t (sizes ws) i
-  pub rest : t * w % whole ≡ remainder t (sizes ws) i
-  pub room : upto (whole_part t (sizes ws)) i + whole_part t (sizes ws) i ≤ t
-
-pub turn : (t : ℕ) (ws : List ℤ) (i whole w : ℕ) → whole ≡ sum (sizes ws) → 0 < whole → i < length ws → w ≡ unsigned_abs (slice_index_or ws i (pos 0)) → Turn t ws i whole w
-turn t ws i whole w e p h r =
-    let k : i < length (sizes ws) = omega (arith, length_sizes ws) in
-    let own = r ∙ sym (get_or_sizes ws i) in
-    record {
-      fits = simp (own, e) (product_fits t (sizes ws) i k);
-      part = simp (own, e);
-      rest = simp (own, e);
-      room = wholes_fit t (sizes ws) (omega arith) i k;
-    }
-
--- one turn of the loop that writes the shares, at a weight of size w
-pub step_fits : (pool : ℤ) (ws : List ℤ) (places i size whole w : ℕ) → shareable pool ws places ≡ true → i < length ws → size ≡ unsigned_abs pool → w ≡ unsigned_abs (slice_index_or ws i (pos 0)) → (size * w ≤ 9000000000000000000) × (size * w / whole ≤ 9000000000000000000)
-step_fits pool ws places i size whole w ok h z r =
-    let f = shareable_facts pool ws places ok in
-    let all = product_fits (unsigned_abs pool) (sizes ws) i (omega (arith, length_sizes ws)) in
-    let own = r ∙ sym (get_or_sizes ws i) in
-    let same : size * w ≡ unsigned_abs pool * get_or (sizes ws) i 0 = simp (z, own) in
-    (omega (arith, f.product), omega (arith, f.product, div-le_self (size * w) whole))
-
-pub step_value : (pool : ℤ) (ws : List ℤ) (rests : List ℕ) (i size whole w left before extra : ℕ) → i < length ws → size ≡ unsigned_abs pool → whole ≡ sum (sizes ws) → w ≡ unsigned_abs (slice_index_or ws i (pos 0)) → left ≡ left_over size (sizes ws) → ((k : ℕ) → k < length ws → slice_index rests k ≡ remainder size (sizes ws) k) → before ≡ rank_in rests (length ws) i → extra ≡ mark (nat_lt before left) → size * w / whole + extra ≡ largest_part (unsigned_abs pool) (sizes ws) i
-step_value pool ws rests i size whole w left before extra h z e r l written b x =
-    let own = r ∙ sym (get_or_sizes ws i) in
-    let many = sym (length_sizes ws) in
-    let ranks = b ∙ rank_agrees size (sizes ws) rests (length ws) i h written ∙ ap (λ n. rank (remainder size (sizes ws)) n i) many in
-    simp (x, ranks, l, e, own, z)

@@ -1,7 +1,7 @@
 -- Sharing rules: a list of shares for each pool of cents and list of weights.
 use Rattle.std.specs.Prelude.{◌≡◌, ℕ, suc, ◌+◌, ◌-◌, ◌*◌, ◌/◌, ◌%◌, ◌<◌, Bool, true, false, cond, ◌&&◌, ◌||◌, List, [], ◌∷◌, map, length, take, ℤ, pos, negsuc, ◌+ℤ◌, ◌*ℤ◌, ◌≤ℤ◌, Ok, Err, sum_by, sum, count_by, Result, Option, None, is_none, option_map, ◌==◌, nat_le, nat_lt, slice_index, slice_index_or, unsigned_abs}
 use Rattle.std.specs.Int.{is_negative}
-use Rattle.std.specs.List.{position, range_with_len}
+use Rattle.std.specs.List.{enumerate_from, position, range_with_len}
 use Rattle.measures.specs.Faults.{fault}
 use Rattle.measures.specs.declared.amounts.Cents.{Cents}
 use Rattle.measures.specs.declared.fault.Cause.TheVariants.{SharingLimits}
@@ -82,6 +82,10 @@ whole_part t ws i = t * slice_index ws i / sum ws
 abbrev pub remainder : ℕ → List ℕ → ℕ → ℕ
 remainder t ws i = t * slice_index ws i % sum ws
 
+-- the remainders of all places
+abbrev pub remainders : ℕ → List ℕ → List ℕ
+remainders t ws = map (remainder t ws) (range_with_len 0 (length ws))
+
 -- the cents that the whole parts leave
 abbrev pub left_over : ℕ → List ℕ → ℕ
 left_over t ws = t - sum_by (whole_part t ws) (range_with_len 0 (length ws))
@@ -94,9 +98,9 @@ ahead f i j = nat_lt (f i) (f j) || (f i == f j && nat_lt j i)
 abbrev pub rank : (ℕ → ℕ) → ℕ → ℕ → ℕ
 rank f n i = count_by (ahead f i) (range_with_len 0 n)
 
--- the rank of place i among the first n remainders of a list
-abbrev pub rank_in : List ℕ → ℕ → ℕ → ℕ
-rank_in rests n i = rank (λ j. slice_index rests j) n i
+-- the rank of place i in a list of remainders
+abbrev pub rank_in : List ℕ → ℕ → ℕ
+rank_in rests i = count_by (λ p. nat_lt (slice_index rests i) p.1 || (slice_index rests i == p.1 && nat_lt p.0 i)) (enumerate_from 0 rests)
 
 -- largest remainder: the whole part, and one more where fewer places go before it than cents are left
 abbrev pub largest_part : ℕ → List ℕ → ℕ → ℕ

@@ -1,15 +1,17 @@
 // A sharing rule divides a pool of cents by weights.
-ghost use Rattle.std.specs.Prelude.{◌≡◌, ℕ, ◌*◌, ◌<◌, ◌≤◌, true, List, length, ℤ, sum, slice_index};
+ghost use Rattle.std.specs.Prelude.{◌≡◌, ℕ, ◌+◌, ◌*◌, ◌^◌, ◌<◌, ◌≤◌, true, false, cond, nat_lt, List, length, ℤ, sum, slice_index, unsigned_abs, MatchResult};
 ghost use Rattle.std.specs.Int.{is_negative};
 ghost use Rattle.std.specs.List.{position};
 ghost use Rattle.measures.specs.Faults.{fault};
 ghost use Rattle.measures.specs.declared.fault.Cause.TheVariants.{SharingLimits};
 ghost use Rattle.measures.specs.declared.fault.Layer.TheVariants.{Share};
-ghost use Rattle.rules.specs.Sharing.{Fair, Shared, Checked, shareable, sizes, first_negative, remainder, left_over, rank_in, largest_remainder, running};
+ghost use Rattle.rules.specs.declared.sharing.TheConstants.{MOST_WEIGHTS, LARGEST_PRODUCT};
+ghost use Rattle.rules.specs.Sharing.{Fair, Shared, Checked, shareable, sharing_fault, sizes, first_negative, whole_part, remainder, remainders, left_over, rank_in, largest_remainder, running};
 ghost use Rattle.rules.specs.LargestParts.{largest_fair};
 ghost use Rattle.rules.specs.RunningParts.{running_fair};
 
 use crate::sign::with_sign;
+use arrayvec::ArrayVec;
 use measures::amounts::Cents;
 use measures::fault::{Cause, Fault, Layer};
 
@@ -86,37 +88,93 @@ pub fn check_shareable(pool: Cents, weights: &[i64], places: usize) -> Result<u6
     Ok(total as u64)
 }
 
-// Writes the remainder of each place, and returns the cents that the whole parts leave.
-fn remainders(size: u64, weights: &[i64], total: u64, rests: &mut [u64]) -> u64
-    requires sums { total ≡ sum (sizes weights.now) }
-    requires positive { 0 < total }
-    requires product { size * total ≤ 9000000000000000000 }
-    requires room { length weights.now ≤ length rests.old }
-    ensures left { result ≡ left_over size (sizes weights.now) }
-    ensures written { (k : ℕ) → k < length weights.now → slice_index rests.new k ≡ remainder size (sizes weights.now) k }
-{
-    let mut left = size;
-    for (i, weight) in weights.iter().enumerate() {
-        let exact = size * weight.unsigned_abs();
-        rests[i] = exact % total;
-        left -= exact / total;
-    }
-    left
+// A pool that can be shared: its size, and the weights with their sum.
+#[derive(Clone, Copy)]
+struct Pool<'a> {
+    size: u64,
+    weights: &'a [i64],
+    total: u64,
+    ghost few: { length weights.now ≤ MOST_WEIGHTS },
+    ghost sums: { total ≡ sum (sizes weights.now) },
+    ghost positive: { 0 < total },
+    ghost product: { size * total ≤ LARGEST_PRODUCT },
 }
 
-// How many of the first `places` remainders go before that at `i`: the larger ones, and equal ones at lower places.
-fn rank_of(rests: &[u64], places: usize, i: usize) -> u64
-    requires { (places ≤ length rests.now) × (i < places) }
-    ensures { result ≡ rank_in rests.now places i }
+impl<'a> Pool<'a> {
+    // The pool, where it can be shared by the weights over so many places; else the refusal.
+    fn new(pool: Cents, weights: &'a [i64], places: usize) -> Result<Pool<'a>, Fault>
+        ensures { MatchResult result (λ p. (shareable pool.0 weights.now places ≡ true) × (p.size ≡ unsigned_abs pool.0) × (p.weights.now ≡ weights.now)) (λ f. (shareable pool.0 weights.now places ≡ false) × (f ≡ sharing_fault weights.now places)) }
+    {
+        let total = check_shareable(pool, weights, places)?;
+        Ok(Pool {
+            size: pool.0.unsigned_abs(),
+            weights,
+            total,
+        })
+    }
+
+    // What falls to the weight at `i`, times the sum of the weights.
+    fn product(&self, i: usize) -> u64
+        requires { i < length self.now.weights.now }
+        ensures value { result ≡ self.now.size * slice_index (sizes self.now.weights.now) i }
+        ensures fits { result ≤ LARGEST_PRODUCT }
+    {
+        self.size * self.weights[i].unsigned_abs()
+    }
+
+    // The whole cents of what falls to the weight at `i`.
+    fn whole_part(&self, i: usize) -> u64
+        requires { i < length self.now.weights.now }
+        ensures value { result ≡ whole_part self.now.size (sizes self.now.weights.now) i }
+        ensures fits { result ≤ LARGEST_PRODUCT }
+    {
+        self.product(i) / self.total
+    }
+
+    // The remainder of what falls to the weight at `i`, by which the cents left over are given.
+    fn remainder(&self, i: usize) -> u64
+        requires { i < length self.now.weights.now }
+        ensures { result ≡ remainder self.now.size (sizes self.now.weights.now) i }
+    {
+        self.product(i) % self.total
+    }
+
+    // The remainders, one for each weight.
+    fn remainders(&self) -> ArrayVec<u64, MOST_WEIGHTS>
+        ensures { result.items ≡ remainders self.now.size (sizes self.now.weights.now) }
+    {
+        let mut rests = ArrayVec::new();
+        for i in 0..self.weights.len() {
+            rests.push(self.remainder(i));
+        }
+        rests
+    }
+
+    // The cents that the whole parts leave: what the remainders come to together.
+    fn left_over(&self, rests: &[u64]) -> u64
+        requires { rests.now ≡ remainders self.now.size (sizes self.now.weights.now) }
+        ensures { result ≡ left_over self.now.size (sizes self.now.weights.now) }
+    {
+        rests.iter().sum::<u64>() / self.total
+    }
+
+    // The whole part, and a cent more where fewer places go before this one than cents are left.
+    fn largest_part(&self, rests: &[u64], left: u64, i: usize) -> u64
+        requires { (i < length self.now.weights.now) × (i < length rests.now) }
+        ensures value { result ≡ whole_part self.now.size (sizes self.now.weights.now) i + cond (nat_lt (rank_in rests.now i) left) 1 0 }
+        ensures fits { result < 2 ^ 63 }
+    {
+        self.whole_part(i) + u64::from(rank_of(rests, i) < left)
+    }
+}
+
+// How many remainders go before that at `i`: the larger ones, and equal ones at lower places.
+fn rank_of(rests: &[u64], i: usize) -> u64
+    requires { i < length rests.now }
+    ensures { result ≡ rank_in rests.now i }
 {
     let own = rests[i];
-    let mut before: u64 = 0;
-    for j in 0..places {
-        if own < rests[j] || own == rests[j] && j < i {
-            before += 1;
-        }
-    }
-    before
+    rests.iter().enumerate().filter(|(j, rest)| own < **rest || own == **rest && *j < i).count() as u64
 }
 
 // The whole parts, and the cents left over one each to the largest remainders, the lower place first in a tie.
@@ -129,17 +187,11 @@ impl Sharing for LargestRemainder {
     ghost fair = { λ r pool ws ok. largest_fair pool ws ok };
 
     fn share(&self, pool: Cents, weights: &[i64], to: &mut [Cents]) -> Result<(), Fault> {
-        let total = check_shareable(pool, weights, to.len())?;
-        let size = pool.0.unsigned_abs();
-        let mut rests = [0u64; MOST_WEIGHTS];
-        let left = remainders(size, weights, total, &mut rests);
-        for (i, weight) in weights.iter().enumerate() {
-            let extra: u64 = if rank_of(&rests, weights.len(), i) < left {
-                1
-            } else {
-                0
-            };
-            to[i] = Cents(with_sign(pool.0, size * weight.unsigned_abs() / total + extra));
+        let shared = Pool::new(pool, weights, to.len())?;
+        let rests = shared.remainders();
+        let left = shared.left_over(&rests);
+        for i in 0..weights.len() {
+            to[i] = Cents(with_sign(pool.0, shared.largest_part(&rests, left, i)));
         }
         Ok(())
     }

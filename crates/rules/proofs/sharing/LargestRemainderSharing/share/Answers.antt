@@ -1,51 +1,45 @@
-use Rattle.std.proofs.Common.{◌≡◌, ◌*◌, ◌/◌, ◌≤◌, ltb, get_or, pos, nat_abs, sym, ◌∙◌, arith, w64, to_z, of_z, rules}
+use Rattle.std.proofs.Common.{◌≡◌, ap, ◌<◌, ◌∙◌, length, pos, nat_abs, arith, w64, to_z, of_z}
 use Rattle.std.proofs.lemmas.Int.{to_z-of_z}
-use Rattle.std.proofs.lemmas.Bool.Decides.{nat_tests}
+use Rattle.std.proofs.lemmas.List.{length-map}
+use Rattle.std.proofs.lemmas.List.FromFn.{length-map-range_with_len, fill_by_all}
 use Rattle.measures.specs.Signs.{signed}
-use Rattle.rules.specs.Sharing.{sizes, largest_part, largest_remainder}
-use Rattle.rules.specs.LargestParts.{step_fits, step_value}
-use Rattle.rules.specs.Ranks.{mark}
+use Rattle.rules.specs.Sharing.{amounts, sizes, remainder, largest_part}
 use Rattle.rules.specs.Shareable.{shareable_facts}
-use Rattle.rules.specs.Shares.{length_by_place, get_or_by_place, put_share, all_put}
+use Rattle.rules.specs.Weights.{length_sizes}
+use Rattle.rules.proofs.Parts.{part_agrees}
+use Rattle.rules.proofs.Put.{put}
 use Rattle.rules.proofs.sharing.LargestRemainderSharing.share.Goals as goal
-use Rattle.rules.proofs.sharing.LargestRemainderSharing.share.Goals.{After-unsigned_abs, then-rank_of-left, else-rank_of-left}
 
--- the turn of the loop, once its weight is read
-step : (c : goal.After-unsigned_abs) → (c.unsigned_abs-size.result * c.unsigned_abs.result ≤ 9000000000000000000) × (c.unsigned_abs-size.result * c.unsigned_abs.result / c.in_ok-total.total ≤ 9000000000000000000) × (c.if-rank_of-left.extra ≤ 1)
-step c =
-    let size : c.unsigned_abs-size.result ≡ nat_abs c.args.pool.0 = search (rules, to_z-of_z) in
-    let own : c.unsigned_abs.result ≡ nat_abs (get_or c.args.weights.now c.loop-i.i (pos 0)) = search (rules, to_z-of_z) in
-    let s = step_fits c.args.pool.0 c.args.weights.now _ c.loop-i.i c.unsigned_abs-size.result c.in_ok-total.total c.unsigned_abs.result c.in_ok-total.ensures.0 c.loop-i-test.true size own in
-    (s.0, s.1, elim c.if-rank_of-left.branch [ then-rank_of-left w ↦ omega (arith, w.extra-is) | else-rank_of-left w ↦ omega (arith, w.extra-is) ])
-
-pub overflow_mul-size : goal.overflow_mul-size
-overflow_mul-size c = let s = step c in search rules
-
-pub overflow_add-size : goal.overflow_add-size
-overflow_add-size c = let s = step (goal.at.overflow_add-size c).After-unsigned_abs in search rules
-
-pub with_sign-requires : goal.with_sign-requires
-with_sign-requires c = let s = step (goal.at.with_sign-requires c).After-unsigned_abs in omega arith
+pub largest_part-requires : goal.largest_part-requires
+largest_part-requires c =
+    let ws = c.in_ok-shared.shared.weights.now in
+    let same = ap length c.in_ok-shared.ensures.2 in
+    let many = length_sizes ws in
+    let made = length-map-range_with_len (remainder c.in_ok-shared.shared.size (sizes ws)) 0 (length (sizes ws)) in
+    let rests = ap length (c.deref-in-loop-i.ensures.0 ∙ c.remainders-rests.ensures) in
+    (omega arith, omega arith)
 
 pub loop-i-preserved : goal.loop-i-preserved
 loop-i-preserved c =
-    let a = c.in_ok-total.ensures in
     let pool = c.args.pool.0 in
     let ws = c.args.weights.now in
     let i = c.loop-i.i in
-    let f = shareable_facts pool ws _ a.0 in
-    let size : c.unsigned_abs-size.result ≡ nat_abs pool = search (rules, to_z-of_z) in
-    let own : c.unsigned_abs.result ≡ nat_abs (get_or ws i (pos 0)) = search (rules, to_z-of_z) in
-    let x : c.if-rank_of-left.extra ≡ mark (ltb c.rank_of.result c.remainders-left.result) = elim c.if-rank_of-left.branch [ then-rank_of-left w ↦ let e = w.extra-is in let t = w.if-rank_of-left.true in grind (arith, nat_tests) | else-rank_of-left w ↦ let e = w.extra-is in let t = w.if-rank_of-left.false in grind (arith, nat_tests) ] in
-    let part = step_value pool ws c.remainders-left.new.rests i c.unsigned_abs-size.result c.in_ok-total.total c.unsigned_abs.result c.remainders-left.result c.rank_of.result c.if-rank_of-left.extra c.loop-i-test.true size a.1 own c.remainders-left.ensures.left c.remainders-left.ensures.written c.rank_of.ensures x in
-    let value : to_z w64 (of_z w64 c.with_sign.result) ≡ signed pool (largest_part (nat_abs pool) (sizes ws) i) = grind (arith, to_z-of_z, part) in
-    let share = value ∙ sym (get_or_by_place largest_part pool ws i c.loop-i-test.true) in
-    let many = length_by_place largest_part pool ws in
-    (omega arith, put_share c.loop-i.to i _ (largest_remainder pool ws) (omega (arith, f.each)) (omega arith) c.loop-i.invariant.1 share)
+    let shared = c.in_ok-shared.shared in
+    let e = c.in_ok-shared.ensures in
+    let f = shareable_facts pool ws _ e.0 in
+    let same = ap length e.2 in
+    let within : i < length (sizes shared.weights.now) = omega (arith, length_sizes shared.weights.now) in
+    let part = part_agrees shared.size (sizes shared.weights.now) c.deref-in-loop-i.result.now c.left_over-left.result i within (c.deref-in-loop-i.ensures.0 ∙ c.remainders-rests.ensures) c.left_over-left.ensures in
+    let size : c.largest_part.result ≡ largest_part (nat_abs pool) (sizes ws) i =
+      c.largest_part.ensures.value ∙ part ∙ ap (λ t. largest_part t (sizes shared.weights.now) i) e.1 ∙ ap (λ us. largest_part (nat_abs pool) (sizes us) i) e.2 in
+    let share : to_z w64 (of_z w64 c.with_sign.result) ≡ signed pool (largest_part (nat_abs pool) (sizes ws) i) = grind (arith, to_z-of_z, size) in
+    put (λ k. signed pool (largest_part (nat_abs pool) (sizes ws) k)) c.loop-i.to i _ (omega (arith, f.each)) share c.loop-i.invariant
 
 pub returns : goal.returns
 returns c =
-    let a = c.in_ok-total.ensures in
-    let f = shareable_facts c.args.pool.0 c.args.weights.now _ a.0 in
-    let many = length_by_place largest_part c.args.pool.0 c.args.weights.now in
-    (a.0, all_put c.loop-i.to c.loop-i.i _ (omega (arith, f.each)) (omega arith) c.loop-i.invariant.1)
+    let pool = c.args.pool.0 in
+    let ws = c.args.weights.now in
+    let e = c.in_ok-shared.ensures in
+    let f = shareable_facts pool ws _ e.0 in
+    let many : length (amounts c.loop-i.to) ≡ length ws = simp length-map (omega (arith, f.each)) in
+    (e.0, fill_by_all (λ k. signed pool (largest_part (nat_abs pool) (sizes ws) k)) (amounts c.loop-i.to) (length ws) (pos 0) many (λ k h. c.loop-i.invariant k (omega arith)))
