@@ -8,11 +8,11 @@ use Rattle.rules.specs.Sharing.{sizes, whole_part, remainder, remainders, left_o
 use Rattle.rules.specs.LargestParts.{remainders_are}
 use Rattle.rules.specs.Weights.{length_sizes, get_or_sizes}
 
--- the pool times one weight is at most the pool times all
-pub product_fits : (t : ℕ) (ws : List ℤ) (i : ℕ) → i < length ws → t * nat_abs (get_or ws i (pos 0)) ≤ t * sum (sizes ws)
-product_fits t ws i h =
+-- one weight is at most all of them
+pub weight_fits : (ws : List ℤ) (i : ℕ) → i < length ws → nat_abs (get_or ws i (pos 0)) ≤ sum (sizes ws)
+weight_fits ws i h =
     let one = get_or-le-sum_by (λ x. x) (sizes ws) i 0 (omega (arith, length_sizes ws)) in
-    mul-le-mul_left t (omega (arith, get_or_sizes ws i))
+    omega (arith, get_or_sizes ws i)
 
 -- a count of the numbered values of a function is a count of the places
 count_places : (q : ℕ → ℕ → Bool) (f : ℕ → ℕ) (k n : ℕ) → count_by (λ p. q p.0 p.1) (enumerate_from k (map f (range_with_len k n))) ≡ count_by (λ j. q j (f j)) (range_with_len k n)

@@ -27,7 +27,7 @@ sum_take_rises ws i = let h : i ≤ i + 1 = omega arith in simp take-take at (su
 quotient_rises : (m n k : ℕ) → 0 < k → m ≤ n → m / k ≤ n / k
 quotient_rises m n k p h = le-div (m / k) n k p (omega (arith, div-add-mod' m k))
 
-reached_rises : (t : ℕ) (ws : List ℕ) → 0 < sum ws → (i : ℕ) → reached t ws i ≤ reached t ws (i + 1)
+pub reached_rises : (t : ℕ) (ws : List ℕ) → 0 < sum ws → (i : ℕ) → reached t ws i ≤ reached t ws (i + 1)
 reached_rises t ws p i = quotient_rises _ _ (sum ws) p (mul-le-mul_left t (sum_take_rises ws i))
 
 pub running_adds : (t : ℕ) (ws : List ℕ) → 0 < sum ws → sum_by (running_part t ws) (range_with_len 0 (length ws)) ≡ t
@@ -57,35 +57,3 @@ pub running_fair : (pool : ℤ) (ws : List ℤ) → shareable pool ws (length ws
 running_fair pool ws ok =
     let f = shareable_facts pool ws (length ws) ok in
     fair_by_place running_part pool ws f.none_negative (running_adds (unsigned_abs pool) (sizes ws) f.positive) (running_near (unsigned_abs pool) (sizes ws) f.positive)
-
--- one turn of the loop: what stands before it is `so_far` and `given`, and the size of the weight is w
-pub record Step (pool : ℤ) (ws : List ℤ) (i so_far given size whole w : ℕ) : Type 0 where
-  pub sums : so_far + w ≡ sum (take (i + 1) (sizes ws))
-  pub below : so_far + w ≤ 2000000000
-  pub fits : size * (so_far + w) ≤ 9000000000000000000
-  pub reaches : size * (so_far + w) / whole ≡ reached (unsigned_abs pool) (sizes ws) (i + 1)
-  pub rises : given ≤ size * (so_far + w) / whole
-  pub small : size * (so_far + w) / whole ≤ 9000000000000000000
-  pub part : size * (so_far + w) / whole - given ≡ running_part (unsigned_abs pool) (sizes ws) i
-
-pub running_step : (pool : ℤ) (ws : List ℤ) (places i so_far given size whole w : ℕ) → shareable pool ws places ≡ true → i < length ws → so_far ≡ sum (take i (sizes ws)) → given ≡ reached (unsigned_abs pool) (sizes ws) i → size ≡ unsigned_abs pool → whole ≡ sum (sizes ws) → w ≡ unsigned_abs (slice_index_or ws i (pos 0)) → Step pool ws i so_far given size whole w
-running_step pool ws places i so_far given size whole w ok h s g z e r =
-    let ns = sizes ws in
-    let f = shareable_facts pool ws places ok in
-    let k : i < length ns = omega (arith, length_sizes ws) in
-    let more : sum (take (i + 1) ns) ≡ sum (take i ns) + get_or ns i 0 = sum_by_more (λ x. x) ns i 0 k in
-    let own = get_or_sizes ws i in
-    let sums : so_far + w ≡ sum (take (i + 1) ns) = omega arith in
-    let less : sum (take (i + 1) ns) ≤ sum ns = sum_by-take-le (λ x. x) ns (i + 1) in
-    let reaches : size * (so_far + w) / whole ≡ reached (unsigned_abs pool) ns (i + 1) = simp (z, e, sums) in
-    let product : size * (so_far + w) ≤ unsigned_abs pool * sum ns = simp (z, sums) (mul-le-mul_left (unsigned_abs pool) less) in
-    let rises = reached_rises (unsigned_abs pool) ns f.positive i in
-    record {
-      sums = sums;
-      below = omega (arith, f.bounded);
-      fits = omega (arith, f.product);
-      reaches = reaches;
-      rises = omega arith;
-      small = omega (arith, f.product, div-le_self (size * (so_far + w)) whole);
-      part = omega arith;
-    }

@@ -1,5 +1,5 @@
 // A sharing rule divides a pool of cents by weights.
-ghost use Rattle.std.specs.Prelude.{◌≡◌, ℕ, ◌+◌, ◌*◌, ◌^◌, ◌<◌, ◌≤◌, true, false, cond, nat_lt, List, length, ℤ, sum, slice_index, unsigned_abs, MatchResult};
+ghost use Rattle.std.specs.Prelude.{◌≡◌, ℕ, ◌+◌, ◌*◌, ◌/◌, ◌^◌, ◌<◌, ◌≤◌, true, false, cond, nat_lt, List, length, ℤ, sum, slice_index, unsigned_abs, MatchResult};
 ghost use Rattle.std.specs.Int.{is_negative};
 ghost use Rattle.std.specs.List.{position};
 ghost use Rattle.measures.specs.Faults.{fault};
@@ -113,30 +113,48 @@ impl<'a> Pool<'a> {
         })
     }
 
-    // What falls to the weight at `i`, times the sum of the weights.
-    fn product(&self, i: usize) -> u64
+    // The size of the weight at `i`.
+    fn weight(&self, i: usize) -> u64
         requires { i < length self.now.weights.now }
-        ensures value { result ≡ self.now.size * slice_index (sizes self.now.weights.now) i }
-        ensures fits { result ≤ LARGEST_PRODUCT }
+        ensures value { result ≡ slice_index (sizes self.now.weights.now) i }
+        ensures fits { result ≤ self.now.total }
     {
-        self.size * self.weights[i].unsigned_abs()
+        self.weights[i].unsigned_abs()
     }
 
-    // The whole cents of what falls to the weight at `i`.
+    // The size of the pool times a part of the weights.
+    fn product(&self, part: u64) -> u64
+        requires { part ≤ self.now.total }
+        ensures value { result ≡ self.now.size * part }
+        ensures fits { result ≤ LARGEST_PRODUCT }
+    {
+        self.size * part
+    }
+
+    // The whole cents that fall to a part of the weights.
+    fn reached(&self, part: u64) -> u64
+        requires { part ≤ self.now.total }
+        ensures value { result ≡ self.now.size * part / sum (sizes self.now.weights.now) }
+        ensures fits { result ≤ LARGEST_PRODUCT }
+    {
+        self.product(part) / self.total
+    }
+
+    // The whole cents that fall to the weight at `i`.
     fn whole_part(&self, i: usize) -> u64
         requires { i < length self.now.weights.now }
         ensures value { result ≡ whole_part self.now.size (sizes self.now.weights.now) i }
         ensures fits { result ≤ LARGEST_PRODUCT }
     {
-        self.product(i) / self.total
+        self.reached(self.weight(i))
     }
 
-    // The remainder of what falls to the weight at `i`, by which the cents left over are given.
+    // What is left of the product at the weight at `i`, by which the cents left over are given.
     fn remainder(&self, i: usize) -> u64
         requires { i < length self.now.weights.now }
         ensures { result ≡ remainder self.now.size (sizes self.now.weights.now) i }
     {
-        self.product(i) % self.total
+        self.product(self.weight(i)) % self.total
     }
 
     // The remainders, one for each weight.
@@ -207,13 +225,12 @@ impl Sharing for Running {
     ghost fair = { λ r pool ws ok. running_fair pool ws ok };
 
     fn share(&self, pool: Cents, weights: &[i64], to: &mut [Cents]) -> Result<(), Fault> {
-        let total = check_shareable(pool, weights, to.len())?;
-        let size = pool.0.unsigned_abs();
-        let mut so_far: u64 = 0;
-        let mut given: u64 = 0;
-        for (i, weight) in weights.iter().enumerate() {
-            so_far += weight.unsigned_abs();
-            let reached = size * so_far / total;
+        let shared = Pool::new(pool, weights, to.len())?;
+        let mut so_far = 0;
+        let mut given = 0;
+        for i in 0..weights.len() {
+            so_far += shared.weight(i);
+            let reached = shared.reached(so_far);
             to[i] = Cents(with_sign(pool.0, reached - given));
             given = reached;
         }
