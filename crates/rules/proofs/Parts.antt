@@ -1,10 +1,10 @@
 -- What a pool's whole parts, remainders and ranks come to.
-use Rattle.std.proofs.Common.{◌≡◌, ℕ, zero, suc, ◌+◌, ◌*◌, ◌<◌, ◌≤◌, cond, List, map, length, get_or, ℤ, pos, nat_abs, sum_by, sum, sym, ap, refl, ◌∙◌, mul-le-mul_left, mul-le-mul_right, mul-div_cancel, ◌/◌, arith}
+use Rattle.std.proofs.Common.{◌≡◌, ℕ, zero, suc, ◌+◌, ◌*◌, ◌<◌, ◌≤◌, cond, List, map, length, get_or, ℤ, pos, nat_abs, sum, sym, ap, refl, ◌∙◌, mul-le-mul_right, mul-div_cancel, ◌/◌, arith}
 use Rattle.std.specs.Prelude.{Bool, ◌==◌, ◌||◌, ◌&&◌, nat_lt, count_by, slice_index}
 use Rattle.std.specs.List.{enumerate_from, range_with_len}
 use Rattle.std.proofs.lemmas.List.Sums.{sum_by-cons, get_or-le-sum_by}
 use Rattle.std.proofs.lemmas.List.FromFn.{get_or-map-range_with_len}
-use Rattle.rules.specs.Sharing.{sizes, whole_part, remainder, remainders, left_over, ahead, rank, rank_in, largest_part}
+use Rattle.rules.specs.Sharing.{sizes, whole_part, remainder, remainders, left_over, rank, rank_in, largest_part}
 use Rattle.rules.specs.LargestParts.{remainders_are}
 use Rattle.rules.specs.Weights.{length_sizes, get_or_sizes}
 

@@ -1,20 +1,19 @@
 -- The rule of the largest remainder is fair.
-use Rattle.std.specs.Prelude.{◌≡◌, ℕ, zero, suc, ◌+◌, ◌*◌, ◌/◌, ◌%◌, ◌<◌, ◌≤◌, true, ltb, List, length, get_or, take, ℤ, pos, sum_by, sum, nat_lt, slice_index, slice_index_or, unsigned_abs, refl}
+use Rattle.std.specs.Prelude.{◌≡◌, ℕ, zero, suc, ◌+◌, ◌*◌, ◌<◌, ◌≤◌, true, ltb, List, length, take, ℤ, sum_by, sum, nat_lt, slice_index, unsigned_abs, refl}
 use Rattle.std.proofs.Math.Logic.{⊎_elim}
-use Rattle.std.proofs.Common.{sym, subst, ◌∙◌, mul-le-mul_left, div-le_self, one-mul, zero-mul, add-one}
+use Rattle.std.proofs.Common.{subst, ◌∙◌, one-mul, zero-mul, add-one}
 use Rattle.std.proofs.Math.Path.{ap}
 use Rattle.std.proofs.Math.Nat.{div-add-mod', mod-lt, add-mul, le_of_mul-le-mul_right}
 use native.Mathlib.Omega.{arith}
 use Rattle.std.specs.List.{range_with_len}
 use Rattle.std.proofs.lemmas.List.{take_all}
-use Rattle.std.proofs.lemmas.List.Sums.{sum-map, sum_by_more, get_or-le-sum_by}
+use Rattle.std.proofs.lemmas.List.Sums.{sum-map, sum_by_more}
 use Rattle.std.proofs.lemmas.Bool.{cases_lt}
 use Rattle.std.proofs.lemmas.Bool.Decides.{nat_tests}
 use Rattle.rules.specs.Sharing.{sizes, shareable, Fair, ahead, rank, whole_part, remainder, remainders, left_over, largest_part, largest_remainder}
-use Rattle.rules.specs.Ranks.{upto, upto_is, upto_more, upto_grows, upto_le, upto_same, upto_add, upto_mul, mark, marks_le, ranked, below_is}
+use Rattle.rules.specs.Ranks.{upto, upto_is, upto_le, upto_same, upto_add, upto_mul, mark, marks_le, ranked, below_is}
 use Rattle.rules.specs.Shareable.{shareable_facts}
 use Rattle.rules.specs.Shares.{fair_by_place}
-use Rattle.rules.specs.Weights.{length_sizes, get_or_sizes}
 
 weights_upto : (ws : List ℕ) (n : ℕ) → n ≤ length ws → upto (λ i. slice_index ws i) n ≡ sum (take n ws)
 weights_upto ws zero h = refl
@@ -129,4 +128,3 @@ pub largest_fair : (pool : ℤ) (ws : List ℤ) → shareable pool ws (length ws
 largest_fair pool ws ok =
     let f = shareable_facts pool ws (length ws) ok in
     fair_by_place largest_part pool ws f.none_negative (largest_adds (unsigned_abs pool) (sizes ws) f.positive) (largest_near (unsigned_abs pool) (sizes ws) f.positive)
-

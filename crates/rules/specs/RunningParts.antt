@@ -1,6 +1,6 @@
 -- The running rule is fair.
-use Rattle.std.specs.Prelude.{◌≡◌, ℕ, zero, suc, ◌+◌, ◌-◌, ◌*◌, ◌/◌, ◌<◌, ◌≤◌, true, List, map, length, get_or, take, ℤ, pos, sum_by, sum, slice_index, slice_index_or, unsigned_abs}
-use Rattle.std.proofs.Common.{take_all, take-take, ap, subst, ◌∙◌, div-add-mod', mod-lt, mul-add, mul-le-mul_left, mul-div_cancel, mul-zero, div-le_self, add-one, arith}
+use Rattle.std.specs.Prelude.{◌≡◌, ℕ, zero, suc, ◌+◌, ◌-◌, ◌*◌, ◌/◌, ◌<◌, ◌≤◌, true, List, map, length, get_or, take, ℤ, sum_by, sum, slice_index, unsigned_abs}
+use Rattle.std.proofs.Common.{take_all, take-take, ap, subst, ◌∙◌, div-add-mod', mod-lt, mul-add, mul-le-mul_left, mul-div_cancel, mul-zero, add-one, arith}
 use Rattle.std.proofs.Math.Nat.{mul-sub, zero-div}
 use Rattle.std.specs.List.{range_with_len}
 use Rattle.std.proofs.lemmas.Nat.{le-div}
@@ -9,7 +9,6 @@ use Rattle.std.proofs.lemmas.List.Sums.{sum_by_more, sum_by-take-le, sum-map}
 use Rattle.rules.specs.Sharing.{sizes, shareable, Fair, reached, running_part, running}
 use Rattle.rules.specs.Shareable.{shareable_facts}
 use Rattle.rules.specs.Shares.{fair_by_place}
-use Rattle.rules.specs.Weights.{length_sizes, get_or_sizes}
 
 -- the steps of a rising function add up to its rise
 telescope : (F : ℕ → ℕ) → ((i : ℕ) → F i ≤ F (i + 1)) → (n : ℕ) → sum (map (λ i. F (i + 1) - F i) (range_with_len 0 n)) + F 0 ≡ F n
@@ -27,7 +26,7 @@ sum_take_rises ws i = let h : i ≤ i + 1 = omega arith in simp take-take at (su
 quotient_rises : (m n k : ℕ) → 0 < k → m ≤ n → m / k ≤ n / k
 quotient_rises m n k p h = le-div (m / k) n k p (omega (arith, div-add-mod' m k))
 
-pub reached_rises : (t : ℕ) (ws : List ℕ) → 0 < sum ws → (i : ℕ) → reached t ws i ≤ reached t ws (i + 1)
+reached_rises : (t : ℕ) (ws : List ℕ) → 0 < sum ws → (i : ℕ) → reached t ws i ≤ reached t ws (i + 1)
 reached_rises t ws p i = quotient_rises _ _ (sum ws) p (mul-le-mul_left t (sum_take_rises ws i))
 
 pub running_adds : (t : ℕ) (ws : List ℕ) → 0 < sum ws → sum_by (running_part t ws) (range_with_len 0 (length ws)) ≡ t

@@ -192,7 +192,11 @@ fn rank_of(rests: &[u64], i: usize) -> u64
     ensures { result ≡ rank_in rests.now i }
 {
     let own = rests[i];
-    rests.iter().enumerate().filter(|(j, rest)| own < **rest || own == **rest && *j < i).count() as u64
+    rests
+        .iter()
+        .enumerate()
+        .filter(|(j, rest)| own < **rest || own == **rest && *j < i)
+        .count() as u64
 }
 
 // The whole parts, and the cents left over one each to the largest remainders, the lower place first in a tie.
@@ -208,6 +212,7 @@ impl Sharing for LargestRemainder {
         let shared = Pool::new(pool, weights, to.len())?;
         let rests = shared.remainders();
         let left = shared.left_over(&rests);
+        // By index: of what a loop over `zip` with `iter_mut` writes, the proof did not close.
         for i in 0..weights.len() {
             to[i] = Cents(with_sign(pool.0, shared.largest_part(&rests, left, i)));
         }
@@ -228,6 +233,7 @@ impl Sharing for Running {
         let shared = Pool::new(pool, weights, to.len())?;
         let mut so_far = 0;
         let mut given = 0;
+        // By index, as above.
         for i in 0..weights.len() {
             so_far += shared.weight(i);
             let reached = shared.reached(so_far);

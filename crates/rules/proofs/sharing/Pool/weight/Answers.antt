@@ -1,4 +1,4 @@
-use Rattle.std.proofs.Common.{arith, rules}
+use Rattle.std.proofs.Common.{rules}
 use Rattle.rules.proofs.Parts.{weight_fits}
 use Rattle.rules.proofs.sharing.Pool.weight.Goals as goal
 
