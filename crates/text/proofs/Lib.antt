@@ -1,6 +1,5 @@
-pub mod Buffered
+pub mod Printed
 pub mod Justified
-pub mod Scanned
 pub mod Sizes
 pub mod Readings
 pub mod Splits

@@ -1,4 +1,2 @@
 pub mod Fields
 pub mod Lines
-pub mod Scans
-pub mod Buffers

@@ -1,6 +1,6 @@
-// Fixed-column text: fields, right-justified, and lines.
+// Fixed-column text: fields, right-justified, amounts in dollars, and lines.
 #![tactic(auto)]
 
-mod buffer;
+pub mod dollars;
 pub mod fields;
 pub mod lines;

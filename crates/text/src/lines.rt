@@ -6,10 +6,6 @@ ghost use Rattle.text.specs.Lines.{NoLineFeed, FirstLine};
 pub fn split_line(input: &[u8]) -> Option<(&[u8], &[u8])>
     ensures { MatchOption result (NoLineFeed input.now) (λ p. FirstLine input.now p.0.now p.1.now) }
 {
-    for (at, byte) in input.iter().enumerate() {
-        if *byte == b'\n' {
-            return Some((&input[0..at], &input[at + 1..input.len()]));
-        }
-    }
-    None
+    let end = input.iter().position(|byte| *byte == b'\n')?;
+    Some((&input[..end], &input[end + 1..]))
 }

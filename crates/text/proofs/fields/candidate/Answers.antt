@@ -1,17 +1,12 @@
-use Rattle.std.proofs.Common.{eqb, arith}
-use Rattle.std.proofs.lemmas.List.Elements.{contains_decides}
-use Rattle.std.proofs.lemmas.Int.{ints}
-use Rattle.std.proofs.lemmas.Bool.{both_ways}
-use Rattle.text.proofs.Readings.{held_negative, held_positive}
+use Rattle.std.proofs.Common.{rules, ◌≡◌, ◌∙◌, ap}
+use Rattle.std.specs.Result.{result_ok}
+use Rattle.text.proofs.Readings.{is_text, parsed}
 use Rattle.text.proofs.fields.candidate.Goals as goal
-use Rattle.std.proofs.lemmas.Bool.Decides.{Decides-eqb}
 
-pub returns-then-contains : goal.returns-then-contains
-returns-then-contains c z f =
-    let d = contains_decides eqb Decides-eqb c.args.field.now 45 _ c.contains.ensures.cases in
-    let e = held_negative c.args.field.now z f (d.0 c.if-contains.true) in omega (arith, ints)
+pub returns-in_err-text : goal.returns-in_err-text
+returns-in_err-text c z f = let u = is_text _ _ z f c.trim_ascii_start.ensures.value in absurd (search rules)
 
-pub returns-else-contains : goal.returns-else-contains
-returns-else-contains c z f =
-    let d = contains_decides eqb Decides-eqb c.args.field.now 45 _ c.contains.ensures.cases in
-    let e = held_positive c.args.field.now z f (λ h. both_ways _ c.if-contains.false (d.1 h)) in omega (arith, ints)
+pub returns : goal.returns
+returns c z f =
+    let same : c.in_ok-text.text.now ≡ c.trim_ascii_start.result.now = search rules in
+    c.ok-2.ensures.value ∙ ap result_ok (parsed _ _ z c.parse.result f c.trim_ascii_start.ensures.value (rw (← same) c.parse.ensures.value.0))
