@@ -15,7 +15,7 @@ pub struct KilowattHours(pub i64);
 pub struct Thousandths(pub i64);
 
 // Whole cents, positive where the participant pays.
-#[derive(Clone, Copy, PartialEq, Eq, Debug)]
+#[derive(Clone, Copy, PartialEq, Eq, Default, Debug)]
 pub struct Cents(pub i64);
 
 // Whole megawatt-hours, a unit of weight.

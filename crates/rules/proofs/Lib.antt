@@ -1,3 +1,3 @@
-pub mod Put
+pub mod Lists
 pub mod Parts
 pub mod Within

@@ -1,8 +1,8 @@
 -- What a pool's whole parts, remainders and ranks come to.
-use Rattle.std.proofs.Common.{◌≡◌, ℕ, zero, suc, ◌+◌, ◌*◌, ◌<◌, ◌≤◌, cond, List, map, length, get_or, ℤ, pos, nat_abs, sum, sym, ap, refl, ◌∙◌, mul-le-mul_right, mul-div_cancel, ◌/◌, arith}
+use Rattle.std.proofs.Common.{◌≡◌, ℕ, zero, suc, ◌+◌, ◌*◌, ◌<◌, ◌≤◌, cond, List, map, length, get_or, take, ℤ, pos, nat_abs, sum, sym, ap, refl, ◌∙◌, mul-le-mul_right, mul-div_cancel, ◌/◌, arith}
 use Rattle.std.specs.Prelude.{Bool, ◌==◌, ◌||◌, ◌&&◌, nat_lt, count_by, slice_index}
 use Rattle.std.specs.List.{enumerate_from, range_with_len}
-use Rattle.std.proofs.lemmas.List.Sums.{sum_by-cons, get_or-le-sum_by}
+use Rattle.std.proofs.lemmas.List.Sums.{sum_by-cons, get_or-le-sum_by, sum_by_more_le}
 use Rattle.std.proofs.lemmas.List.FromFn.{get_or-map-range_with_len}
 use Rattle.rules.specs.Sharing.{sizes, whole_part, remainder, remainders, left_over, rank, rank_in, largest_part}
 use Rattle.rules.specs.LargestParts.{remainders_are}
@@ -12,6 +12,12 @@ use Rattle.rules.specs.Weights.{length_sizes, get_or_sizes}
 pub weight_fits : (ws : List ℤ) (i : ℕ) → i < length ws → nat_abs (get_or ws i (pos 0)) ≤ sum (sizes ws)
 weight_fits ws i h =
     let one = get_or-le-sum_by (λ x. x) (sizes ws) i 0 (omega (arith, length_sizes ws)) in
+    omega (arith, get_or_sizes ws i)
+
+-- nor do the weights up to a place and the one there
+pub so_far_fits : (ws : List ℤ) (i : ℕ) → i < length ws → sum (take i (sizes ws)) + nat_abs (get_or ws i (pos 0)) ≤ sum (sizes ws)
+so_far_fits ws i h =
+    let some = sum_by_more_le (λ x. x) (sizes ws) i 0 (omega (arith, length_sizes ws)) in
     omega (arith, get_or_sizes ws i)
 
 -- a count of the numbered values of a function is a count of the places

@@ -1,12 +1,13 @@
 // A sharing rule divides a pool of cents by weights.
-ghost use Rattle.std.specs.Prelude.{◌≡◌, ℕ, ◌+◌, ◌*◌, ◌/◌, ◌^◌, ◌<◌, ◌≤◌, true, false, cond, nat_lt, List, length, ℤ, sum, slice_index, unsigned_abs, MatchResult};
+ghost use Rattle.std.specs.Prelude.{◌≡◌, ℕ, ◌+◌, ◌*◌, ◌/◌, ◌%◌, ◌^◌, ◌<◌, ◌≤◌, true, false, cond, ◌&&◌, ◌||◌, ◌==◌, nat_le, nat_lt, List, length, ℤ, sum, slice_index, unsigned_abs, MatchResult};
 ghost use Rattle.std.specs.Int.{is_negative};
 ghost use Rattle.std.specs.List.{position};
 ghost use Rattle.measures.specs.Faults.{fault};
 ghost use Rattle.measures.specs.declared.fault.Cause.TheVariants.{SharingLimits};
 ghost use Rattle.measures.specs.declared.fault.Layer.TheVariants.{Share};
 ghost use Rattle.rules.specs.declared.sharing.TheConstants.{MOST_WEIGHTS, LARGEST_PRODUCT};
-ghost use Rattle.rules.specs.Sharing.{Fair, Shared, Checked, shareable, sharing_fault, sizes, first_negative, whole_part, remainder, remainders, left_over, rank_in, largest_remainder, running};
+ghost use Rattle.rules.specs.Sharing.{Fair, Shared, Checked, shareable, sharing_fault, sizes, first_negative, remainders, left_over, rank_in, amounts, largest_remainder, running};
+ghost use Rattle.measures.specs.Signs.{signed};
 ghost use Rattle.rules.specs.LargestParts.{largest_fair};
 ghost use Rattle.rules.specs.RunningParts.{running_fair};
 
@@ -88,105 +89,14 @@ pub fn check_shareable(pool: Cents, weights: &[i64], places: usize) -> Result<u6
     Ok(total as u64)
 }
 
-// A pool that can be shared: its size, and the weights with their sum.
-#[derive(Clone, Copy)]
-struct Pool<'a> {
-    size: u64,
-    weights: &'a [i64],
-    total: u64,
-    ghost few: { length weights.now ≤ MOST_WEIGHTS },
-    ghost sums: { total ≡ sum (sizes weights.now) },
-    ghost positive: { 0 < total },
-    ghost product: { size * total ≤ LARGEST_PRODUCT },
+// Whether the remainder `other` at `j` goes before `own` at `i`: it is larger, or equal and at the lower place.
+fn goes_before(other: u64, j: usize, own: u64, i: usize) -> bool
+    ensures { result ≡ (nat_lt own other || (own == other && nat_lt j i)) }
+{
+    own < other || own == other && j < i
 }
 
-impl<'a> Pool<'a> {
-    // The pool, where it can be shared by the weights over so many places; else the refusal.
-    fn new(pool: Cents, weights: &'a [i64], places: usize) -> Result<Pool<'a>, Fault>
-        ensures { MatchResult result (λ p. (shareable pool.0 weights.now places ≡ true) × (p.size ≡ unsigned_abs pool.0) × (p.weights.now ≡ weights.now)) (λ f. (shareable pool.0 weights.now places ≡ false) × (f ≡ sharing_fault weights.now places)) }
-    {
-        let total = check_shareable(pool, weights, places)?;
-        Ok(Pool {
-            size: pool.0.unsigned_abs(),
-            weights,
-            total,
-        })
-    }
-
-    // The size of the weight at `i`.
-    fn weight(&self, i: usize) -> u64
-        requires { i < length self.now.weights.now }
-        ensures value { result ≡ slice_index (sizes self.now.weights.now) i }
-        ensures fits { result ≤ self.now.total }
-    {
-        self.weights[i].unsigned_abs()
-    }
-
-    // The size of the pool times a part of the weights.
-    fn product(&self, part: u64) -> u64
-        requires { part ≤ self.now.total }
-        ensures value { result ≡ self.now.size * part }
-        ensures fits { result ≤ LARGEST_PRODUCT }
-    {
-        self.size * part
-    }
-
-    // The whole cents that fall to a part of the weights.
-    fn reached(&self, part: u64) -> u64
-        requires { part ≤ self.now.total }
-        ensures value { result ≡ self.now.size * part / sum (sizes self.now.weights.now) }
-        ensures fits { result ≤ LARGEST_PRODUCT }
-    {
-        self.product(part) / self.total
-    }
-
-    // The whole cents that fall to the weight at `i`.
-    fn whole_part(&self, i: usize) -> u64
-        requires { i < length self.now.weights.now }
-        ensures value { result ≡ whole_part self.now.size (sizes self.now.weights.now) i }
-        ensures fits { result ≤ LARGEST_PRODUCT }
-    {
-        self.reached(self.weight(i))
-    }
-
-    // What is left of the product at the weight at `i`, by which the cents left over are given.
-    fn remainder(&self, i: usize) -> u64
-        requires { i < length self.now.weights.now }
-        ensures { result ≡ remainder self.now.size (sizes self.now.weights.now) i }
-    {
-        self.product(self.weight(i)) % self.total
-    }
-
-    // The remainders, one for each weight.
-    fn remainders(&self) -> ArrayVec<u64, MOST_WEIGHTS>
-        ensures { result.items ≡ remainders self.now.size (sizes self.now.weights.now) }
-    {
-        let mut rests = ArrayVec::new();
-        for i in 0..self.weights.len() {
-            rests.push(self.remainder(i));
-        }
-        rests
-    }
-
-    // The cents that the whole parts leave: what the remainders come to together.
-    fn left_over(&self, rests: &[u64]) -> u64
-        requires { rests.now ≡ remainders self.now.size (sizes self.now.weights.now) }
-        ensures { result ≡ left_over self.now.size (sizes self.now.weights.now) }
-    {
-        rests.iter().sum::<u64>() / self.total
-    }
-
-    // The whole part, and a cent more where fewer places go before this one than cents are left.
-    fn largest_part(&self, rests: &[u64], left: u64, i: usize) -> u64
-        requires { (i < length self.now.weights.now) × (i < length rests.now) }
-        ensures value { result ≡ whole_part self.now.size (sizes self.now.weights.now) i + cond (nat_lt (rank_in rests.now i) left) 1 0 }
-        ensures fits { result < 2 ^ 63 }
-    {
-        self.whole_part(i) + u64::from(rank_of(rests, i) < left)
-    }
-}
-
-// How many remainders go before that at `i`: the larger ones, and equal ones at lower places.
+// How many remainders go before that at `i`.
 fn rank_of(rests: &[u64], i: usize) -> u64
     requires { i < length rests.now }
     ensures { result ≡ rank_in rests.now i }
@@ -195,8 +105,117 @@ fn rank_of(rests: &[u64], i: usize) -> u64
     rests
         .iter()
         .enumerate()
-        .filter(|(j, rest)| own < **rest || own == **rest && *j < i)
+        .filter(|(j, other)| goes_before(**other, *j, own, i))
         .count() as u64
+}
+
+// A pool that can be shared: its cents, and the weights with their sum.
+#[derive(Clone, Copy)]
+struct Pool<'a> {
+    cents: Cents,
+    weights: &'a [i64],
+    total: u64,
+    ghost few: { length weights.now ≤ MOST_WEIGHTS },
+    ghost sums: { total ≡ sum (sizes weights.now) },
+    ghost positive: { 0 < total },
+    ghost product: { unsigned_abs cents.0 * total ≤ LARGEST_PRODUCT },
+}
+
+impl<'a> Pool<'a> {
+    // The pool, where it can be shared by the weights over so many places; else the refusal.
+    fn new(cents: Cents, weights: &'a [i64], places: usize) -> Result<Pool<'a>, Fault>
+        ensures { MatchResult result (λ p. (shareable cents.0 weights.now places ≡ true) × (p.cents ≡ cents) × (p.weights.now ≡ weights.now)) (λ f. (shareable cents.0 weights.now places ≡ false) × (f ≡ sharing_fault weights.now places)) }
+    {
+        let total = check_shareable(cents, weights, places)?;
+        Ok(Pool {
+            cents,
+            weights,
+            total,
+        })
+    }
+
+    // The size of the pool times a part of the weights.
+    fn product(&self, part: u64) -> u64
+        requires { part ≤ self.now.total }
+        ensures value { result ≡ unsigned_abs self.now.cents.0 * part }
+        ensures fits { result ≤ LARGEST_PRODUCT }
+    {
+        self.cents.0.unsigned_abs() * part
+    }
+
+    // The whole cents that fall to a part of the weights.
+    fn whole_cents(&self, part: u64) -> u64
+        requires { part ≤ self.now.total }
+        ensures value { result ≡ unsigned_abs self.now.cents.0 * part / sum (sizes self.now.weights.now) }
+        ensures fits { result ≤ LARGEST_PRODUCT }
+    {
+        self.product(part) / self.total
+    }
+
+    // What the whole cents leave of the product.
+    fn remainder(&self, part: u64) -> u64
+        requires { part ≤ self.now.total }
+        ensures { result ≡ unsigned_abs self.now.cents.0 * part % sum (sizes self.now.weights.now) }
+    {
+        self.product(part) % self.total
+    }
+
+    // A share of this size, with the sign of the pool.
+    fn share(&self, size: u64) -> Cents
+        requires { size < 2 ^ 63 }
+        ensures { result.0 ≡ signed self.now.cents.0 size }
+    {
+        Cents(with_sign(self.cents.0, size))
+    }
+
+    // The remainders, one for each weight.
+    fn remainders(&self) -> ArrayVec<u64, MOST_WEIGHTS>
+        ensures { result.items ≡ remainders (unsigned_abs self.now.cents.0) (sizes self.now.weights.now) }
+    {
+        let mut rests = ArrayVec::new();
+        for weight in self.weights {
+            rests.push(self.remainder(weight.unsigned_abs()));
+        }
+        rests
+    }
+
+    // The cents that the whole parts leave: what the remainders come to together.
+    fn left_over(&self, rests: &[u64]) -> u64
+        requires { rests.now ≡ remainders (unsigned_abs self.now.cents.0) (sizes self.now.weights.now) }
+        ensures { result ≡ left_over (unsigned_abs self.now.cents.0) (sizes self.now.weights.now) }
+    {
+        rests.iter().sum::<u64>() / self.total
+    }
+
+    // The whole parts, and a cent more where fewer places go before one than cents are left.
+    fn by_largest_remainder(&self) -> ArrayVec<Cents, MOST_WEIGHTS>
+        ensures { amounts result.items ≡ largest_remainder self.now.cents.0 self.now.weights.now }
+    {
+        let rests = self.remainders();
+        let left = self.left_over(&rests);
+        let mut shares = ArrayVec::new();
+        for (i, weight) in self.weights.iter().enumerate() {
+            let extra = u64::from(rank_of(&rests, i) < left);
+            shares.push(self.share(self.whole_cents(weight.unsigned_abs()) + extra));
+        }
+        shares
+    }
+
+    // What the weights up to each place have reached, less what those before it had.
+    fn running(&self) -> ArrayVec<Cents, MOST_WEIGHTS>
+        ensures { amounts result.items ≡ running self.now.cents.0 self.now.weights.now }
+    {
+        let mut shares = ArrayVec::new();
+        let mut so_far = 0;
+        let mut given = 0;
+        for weight in self.weights {
+            so_far += weight.unsigned_abs();
+            let reached = self.whole_cents(so_far);
+            shares.push(self.share(reached - given));
+            given = reached;
+        }
+        shares
+    }
 }
 
 // The whole parts, and the cents left over one each to the largest remainders, the lower place first in a tie.
@@ -209,13 +228,8 @@ impl Sharing for LargestRemainder {
     ghost fair = { λ r pool ws ok. largest_fair pool ws ok };
 
     fn share(&self, pool: Cents, weights: &[i64], to: &mut [Cents]) -> Result<(), Fault> {
-        let shared = Pool::new(pool, weights, to.len())?;
-        let rests = shared.remainders();
-        let left = shared.left_over(&rests);
-        // By index: of what a loop over `zip` with `iter_mut` writes, the proof did not close.
-        for i in 0..weights.len() {
-            to[i] = Cents(with_sign(pool.0, shared.largest_part(&rests, left, i)));
-        }
+        let pool = Pool::new(pool, weights, to.len())?;
+        to.copy_from_slice(&pool.by_largest_remainder());
         Ok(())
     }
 }
@@ -230,16 +244,8 @@ impl Sharing for Running {
     ghost fair = { λ r pool ws ok. running_fair pool ws ok };
 
     fn share(&self, pool: Cents, weights: &[i64], to: &mut [Cents]) -> Result<(), Fault> {
-        let shared = Pool::new(pool, weights, to.len())?;
-        let mut so_far = 0;
-        let mut given = 0;
-        // By index, as above.
-        for i in 0..weights.len() {
-            so_far += shared.weight(i);
-            let reached = shared.reached(so_far);
-            to[i] = Cents(with_sign(pool.0, reached - given));
-            given = reached;
-        }
+        let pool = Pool::new(pool, weights, to.len())?;
+        to.copy_from_slice(&pool.running());
         Ok(())
     }
 }
