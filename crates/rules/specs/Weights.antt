@@ -1,5 +1,5 @@
 -- Weights and their sizes: where no weight is below 0, each is its size.
-use Rattle.std.specs.Prelude.{◌≡◌, ℕ, zero, suc, ◌≤◌, true, List, [], ◌∷◌, length, ℤ, pos, negsuc, ◌+ℤ◌, sum, is_none, slice_index, slice_index_or, unsigned_abs, refl}
+use Rattle.std.specs.Prelude.{◌≡◌, ℕ, zero, suc, ◌≤◌, true, List, [], ◌∷◌, map, length, ℤ, pos, negsuc, ◌+ℤ◌, sum, is_none, slice_index, slice_index_or, unsigned_abs, refl}
 use Rattle.std.specs.Int.{is_negative}
 use Rattle.std.specs.List.{position_or_len}
 use Rattle.std.proofs.Common.{sym, ap, ◌∙◌, arith}
@@ -40,3 +40,16 @@ total_is ws h = total_of ws (passed ws h)
 
 pub weight_is : (ws : List ℤ) → is_none (first_negative ws) ≡ true → (i : ℕ) → slice_index_or ws i (pos 0) ≡ pos (slice_index (sizes ws) i)
 weight_is ws h = weight_of ws (passed ws h)
+
+-- sizes taken as weights are not below 0
+passed_all : (ns : List ℕ) → length ns ≤ position_or_len is_negative (map pos ns)
+passed_all [] = omega arith
+passed_all (n ∷ ns) =
+    let rest = passed_all ns in
+    grind (arith, nat_tests)
+
+pub none_below : (ns : List ℕ) → is_none (first_negative (map pos ns)) ≡ true
+none_below ns =
+    let all = passed_all ns in
+    let many : length (map pos ns) ≡ length ns = length-map ns pos in
+    grind (arith, nat_tests)

@@ -5,7 +5,7 @@ ghost use Rattle.std.specs.List.{position};
 ghost use Rattle.measures.specs.Faults.{fault};
 ghost use Rattle.measures.specs.declared.fault.Cause.TheVariants.{SharingLimits};
 ghost use Rattle.measures.specs.declared.fault.Layer.TheVariants.{Share};
-ghost use Rattle.rules.specs.declared.sharing.TheConstants.{MOST_WEIGHTS, LARGEST_PRODUCT};
+ghost use Rattle.rules.specs.declared.sharing.TheConstants.{MOST_WEIGHTS, LARGEST_SUM, LARGEST_PRODUCT};
 ghost use Rattle.rules.specs.Sharing.{Fair, Shared, Checked, shareable, sharing_fault, sizes, first_negative, remainders, left_over, rank_in, amounts, largest_remainder, running};
 ghost use Rattle.measures.specs.Signs.{signed};
 ghost use Rattle.rules.specs.LargestParts.{largest_fair};
@@ -29,7 +29,7 @@ pub trait Sharing {
 }
 
 // The most weights that a pool is shared by.
-const MOST_WEIGHTS: usize = 64;
+pub const MOST_WEIGHTS: usize = 64;
 
 // The largest sum of the weights.
 const LARGEST_SUM: u128 = 2_000_000_000;
@@ -68,22 +68,32 @@ fn refusal(place: Option<usize>) -> Fault
     Fault::new(Cause::SharingLimits, Layer::Share, place)
 }
 
+// Whether there are 1 to 64 weights, and as many places to write to.
+fn is_counted(weights: usize, places: usize) -> bool
+    ensures { result ≡ (places == weights && (nat_le 1 places && nat_le places MOST_WEIGHTS)) }
+{
+    places == weights && 1 <= places && places <= MOST_WEIGHTS
+}
+
+// Whether the sum of the weights, and its product with the size of the pool, keep to the limits.
+fn is_within_limits(size: u64, total: u128) -> bool
+    ensures { result ≡ (nat_le 1 total && (nat_le total LARGEST_SUM && nat_le (size * total) LARGEST_PRODUCT)) }
+{
+    1 <= total && total <= LARGEST_SUM && u128::from(size) * total <= LARGEST_PRODUCT
+}
+
 // The sum of the weights, where the pool can be shared by them over so many places; else the refusal.
 pub fn check_shareable(pool: Cents, weights: &[i64], places: usize) -> Result<u64, Fault>
     ensures { Checked pool.0 weights.now places result }
 {
-    if places != weights.len() || places < 1 || places > MOST_WEIGHTS {
+    if !is_counted(weights.len(), places) {
         return Err(refusal(None));
     }
-    let negative = first_negative(weights);
-    if negative.is_some() {
-        return Err(refusal(negative));
+    if let Some(place) = first_negative(weights) {
+        return Err(refusal(Some(place)));
     }
     let total = total_weight(weights);
-    if total < 1 || total > LARGEST_SUM {
-        return Err(refusal(None));
-    }
-    if u128::from(pool.0.unsigned_abs()) * total > LARGEST_PRODUCT {
+    if !is_within_limits(pool.0.unsigned_abs(), total) {
         return Err(refusal(None));
     }
     Ok(total as u64)
@@ -107,6 +117,13 @@ fn rank_of(rests: &[u64], i: usize) -> u64
         .enumerate()
         .filter(|(j, other)| goes_before(**other, *j, own, i))
         .count() as u64
+}
+
+// A cent of those left over, where fewer places go before this one than cents are left.
+fn extra_cent(before: u64, left: u64) -> u64
+    ensures { result ≡ cond (nat_lt before left) 1 0 }
+{
+    u64::from(before < left)
 }
 
 // A pool that can be shared: its cents, and the weights with their sum.
@@ -195,7 +212,7 @@ impl<'a> Pool<'a> {
         let left = self.left_over(&rests);
         let mut shares = ArrayVec::new();
         for (i, weight) in self.weights.iter().enumerate() {
-            let extra = u64::from(rank_of(&rests, i) < left);
+            let extra = extra_cent(rank_of(&rests, i), left);
             shares.push(self.share(self.whole_cents(weight.unsigned_abs()) + extra));
         }
         shares

@@ -29,9 +29,7 @@ loop-i-preserved c =
     let t = unsigned_abs cents in
     let own : c.unsigned_abs.result ≡ unsigned_abs (get_or ws i (pos 0)) = search rules in
     let whole : c.whole_cents.result ≡ whole_part t (sizes ws) i = c.whole_cents.ensures.value ∙ ap (λ n. t * n / sum (sizes ws)) (own ∙ sym (get_or_sizes ws i)) in
-    let extra : c.from-extra.result ≡ cond (nat_lt c.rank_of.result c.left_over-left.result) 1 0 = search rules in
-    let rank = c.rank_of.ensures in
     let within : i < length (sizes ws) = omega (arith, length_sizes ws) in
     let part = part_agrees t (sizes ws) c.deref-in-loop-i.result.now c.left_over-left.result i within (c.deref-in-loop-i.ensures.0 ∙ c.remainders-rests.ensures) c.left_over-left.ensures in
-    let size : c.whole_cents.result + c.from-extra.result ≡ largest_part t (sizes ws) i = ap (λ n. n + c.from-extra.result) whole ∙ ap (λ n. whole_part t (sizes ws) i + n) (extra ∙ ap (λ n. cond (nat_lt n c.left_over-left.result) 1 0) rank) ∙ part in
+    let size : c.whole_cents.result + c.extra_cent-extra.result ≡ largest_part t (sizes ws) i = ap (λ n. n + c.extra_cent-extra.result) whole ∙ ap (λ n. whole_part t (sizes ws) i + n) (c.extra_cent-extra.ensures ∙ ap (λ n. cond (nat_lt n c.left_over-left.result) 1 0) c.rank_of.ensures) ∙ part in
     (omega arith, one_more_amount (λ k. signed cents (largest_part t (sizes ws) k)) _ _ i _ c.push.ensures.items c.loop-i.invariant.1 (c.share.ensures ∙ ap (signed cents) size))

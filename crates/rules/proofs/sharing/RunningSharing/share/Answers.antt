@@ -21,11 +21,10 @@ copy_from_slice-requires c =
 
 pub returns : goal.returns
 returns c =
-    let e = c.in_ok-pool.ensures in
-    (
+    let e = c.in_ok-pool.ensures in (
       e.0,
       ap amounts (c.copy_from_slice.ensures.after ∙ c.deref.ensures.0)
-      ∙ c.running.ensures
-      ∙ ap (λ p. running p.0 c.in_ok-pool.pool.weights.now) e.1
-      ∙ ap (running c.args.pool.0) e.2,
+          ∙ c.running.ensures
+          ∙ ap (λ p. running p.0 c.in_ok-pool.pool.weights.now) e.1
+          ∙ ap (running c.args.pool.0) e.2,
     )
