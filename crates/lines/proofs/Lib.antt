@@ -1,4 +1,3 @@
 pub mod Halves
-pub mod Written
 pub mod Answered
 pub mod Peaks

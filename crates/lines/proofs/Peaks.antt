@@ -1,45 +1,22 @@
 -- The test of line 22, and the refusal of an expense from the tests of its lines.
-use Rattle.std.proofs.Common.{◌≡◌, ℕ, ◌-◌, ◌/◌, Bool, true, false, cond, eqb, ◌≢◌, List, map, length, ℤ, pos, negsuc, ◌+ℤ◌, Some, None, Ok, Err, Result, sym, refl, ap, ◌∙◌, subst, arith}
+use Rattle.std.proofs.Common.{◌≡◌, ℕ, ◌-◌, ◌/◌, Bool, true, false, cond, eqb, List, length, ℤ, pos, negsuc, ◌+ℤ◌, Some, None, Ok, Err, Result, sym, refl, ap, ◌∙◌, subst, arith}
 use borrow.Author.Differences.{ints}
-use Rattle.std.proofs.lemmas.List.{length-map}
-use Rattle.std.proofs.lemmas.Bool.Decides.{nat_tests}
 use Rattle.std.proofs.lemmas.Bool.{and_parts}
-use Rattle.measures.specs.Faults.{fault, on_charge_line}
+use Rattle.measures.specs.Faults.{fault}
 use Rattle.measures.specs.declared.amounts.Cents.{Cents}
-use Rattle.measures.specs.declared.fault.Cause.TheVariants.{SharingLimits, ExpenseOutOfRange}
+use Rattle.measures.specs.declared.fault.Cause.TheVariants.{ExpenseOutOfRange}
 use Rattle.measures.specs.declared.fault.Fault.{Fault}
 use Rattle.measures.specs.declared.fault.Layer.TheVariants.{Share}
 use Rattle.rules.specs.Shareable.{shareable_facts}
 use Rattle.rules.proofs.Within.{fair_within}
 use Rattle.rules.specs.Sharing.{amounts, shareable, total, Fair, Within}
-use Rattle.lines.specs.Expense.{peak_pool, volume_pool, expense_in_range, expense_refusal, peaks_shareable, peaks_fault, PeaksChecked, ExpenseShared, ExpenseAnswered}
-use Rattle.lines.specs.Shared.{line_fault, LineChecked, LineShared}
+use Rattle.lines.specs.Expense.{peak_pool, volume_pool, expense_in_range, expense_refusal, peaks_shareable, peaks_fault, ExpenseShared, ExpenseAnswered}
+use Rattle.lines.specs.Shared.{line_fault, LineShared}
 use Rattle.lines.proofs.Halves.{pools_add}
-
--- with another number of participants, line 22 is refused
-pub peaks_other : (e : ℤ) (participants : ℕ) (peaks : List ℤ) (places : ℕ) → length peaks ≢ participants → PeaksChecked e participants peaks places (Err (on_charge_line 22 (fault SharingLimits Share 0)))
-peaks_other e participants peaks places h =
-    let no : eqb (length peaks) participants ≡ false = grind (arith, nat_tests) in
-    (simp no refl, simp no refl)
-
--- with as many, it is checked as any shared line
-pub peaks_alike : (e : ℤ) (participants : ℕ) (peaks : List ℤ) (places : ℕ) (r : Result Unit Fault) → length peaks ≡ participants → LineChecked 22 (peak_pool e) peaks places r → PeaksChecked e participants peaks places r
-peaks_alike e participants peaks places (Ok u) h k =
-    let yes : eqb (length peaks) participants ≡ true = grind (arith, nat_tests) in
-    simp (yes, k) refl
-peaks_alike e participants peaks places (Err f) h k =
-    let yes : eqb (length peaks) participants ≡ true = grind (arith, nat_tests) in
-    (simp (yes, k.0) refl, simp yes k.1)
 
 -- the refusals of an expense, first to last
 pub refused_volumes : (e : ℤ) (volumes peaks : List ℤ) (m n : ℕ) → shareable (volume_pool e) volumes m ≡ false → expense_refusal e volumes peaks m n ≡ Some (line_fault 21 volumes m)
 refused_volumes e volumes peaks m n a = simp a refl
-
-pub refused_peaks : (e : ℤ) (volumes peaks : List ℤ) (m n : ℕ) → shareable (volume_pool e) volumes m ≡ true → peaks_shareable e (length volumes) peaks n ≡ false → expense_refusal e volumes peaks m n ≡ Some (peaks_fault (length volumes) peaks n)
-refused_peaks e volumes peaks m n a b = simp (a, b) refl
-
-pub refused_range : (e : ℤ) (volumes peaks : List ℤ) (m n : ℕ) → shareable (volume_pool e) volumes m ≡ true → peaks_shareable e (length volumes) peaks n ≡ true → expense_in_range e ≡ false → expense_refusal e volumes peaks m n ≡ Some (fault ExpenseOutOfRange Share 0)
-refused_range e volumes peaks m n a b c = simp (a, b, c) refl
 
 pub not_refused : (e : ℤ) (volumes peaks : List ℤ) (m n : ℕ) → shareable (volume_pool e) volumes m ≡ true → peaks_shareable e (length volumes) peaks n ≡ true → expense_in_range e ≡ true → expense_refusal e volumes peaks m n ≡ None
 not_refused e volumes peaks m n a b c = simp (a, b, c) refl
@@ -83,11 +60,6 @@ expense_done rule e volumes peaks before21 after21 before22 after22 (Err f) a b 
     let z : ◌≡◌ {A = Bool} true false = sym yes ∙ no in
     absurd (grind arith)
 
--- the participants counted by their volumes, or by the numbers in them
-pub by_units : {X : Type 0} (f : X → ℤ) (volumes : List X) (e : ℤ) (peaks : List ℤ) (places : ℕ) (r s : Result Unit Fault) → r ≡ s → PeaksChecked e (length volumes) peaks places r → PeaksChecked e (length (map f volumes)) peaks places s
-by_units f volumes e peaks places r s same h =
-    subst (PeaksChecked e (length (map f volumes)) peaks places) same (subst (λ (n : ℕ). PeaksChecked e n peaks places r) (sym (length-map volumes f)) h)
-
 in_order : (a b c : Bool) (x y z : Fault) → cond a (cond b (cond c None (Some z)) (Some y)) (Some x) ≡ None → c ≡ true
 in_order true true true x y z h = refl
 in_order true true false x y z h = let n : ◌≡◌ {A = ℕ} 0 1 = cc in absurd (omega arith)
@@ -97,4 +69,4 @@ in_order false b c x y z h = let n : ◌≡◌ {A = ℕ} 0 1 = cc in absurd (ome
 -- an expense that is not refused is in range
 pub accepted_range : (e : ℤ) (volumes peaks : List ℤ) (m n : ℕ) → expense_refusal e volumes peaks m n ≡ None → expense_in_range e ≡ true
 accepted_range e volumes peaks m n h =
-    in_order (shareable (volume_pool e) volumes m) (peaks_shareable e (length volumes) peaks n) (expense_in_range e) (line_fault 21 volumes m) (peaks_fault (length volumes) peaks n) (fault ExpenseOutOfRange Share 0) h
+    in_order (shareable (volume_pool e) volumes m) (peaks_shareable e (length volumes) peaks n) (expense_in_range e) (line_fault 21 volumes m) (peaks_fault (length volumes) peaks n) (fault ExpenseOutOfRange Share None) h

@@ -32,7 +32,7 @@ peaks_shareable e participants peaks places = length peaks == participants && sh
 
 -- the refusal where it cannot: with another number of participants it has no place
 abbrev pub peaks_fault : ℕ → List ℤ → ℕ → Fault
-peaks_fault participants peaks places = cond (length peaks == participants) (line_fault 22 peaks places) (on_charge_line 22 (fault SharingLimits Share 0))
+peaks_fault participants peaks places = cond (length peaks == participants) (line_fault 22 peaks places) (on_charge_line 22 (fault SharingLimits Share None))
 
 -- the test of line 22
 abbrev pub PeaksChecked : ℤ → ℕ → List ℤ → ℕ → Result Unit Fault → Type 0
@@ -44,7 +44,7 @@ abbrev pub expense_refusal : ℤ → List ℤ → List ℤ → ℕ → ℕ → O
 expense_refusal e volumes peaks places21 places22 =
     cond (shareable (volume_pool e) volumes places21)
     (cond (peaks_shareable e (length volumes) peaks places22)
-    (cond (expense_in_range e) None (Some (fault ExpenseOutOfRange Share 0)))
+    (cond (expense_in_range e) None (Some (fault ExpenseOutOfRange Share None)))
     (Some (peaks_fault (length volumes) peaks places22)))
     (Some (line_fault 21 volumes places21))
 

@@ -1,9 +1,9 @@
 // A month's expense is two shared lines: half by month volume, half by peak.
-ghost use Rattle.std.specs.Prelude.{◌≡◌, map};
+ghost use Rattle.std.specs.Prelude.{◌≡◌, ℕ, ℤ, map};
 ghost use Rattle.lines.specs.Expense.{ExpenseAnswered, PeaksChecked, expense_in_range, volume_pool, peak_pool};
 
 use crate::line::{ChargeLine, SharedLine, check_line, share_line, wrong_count};
-use measures::amounts::{Cents, Kilowatts, MegawattHours};
+use measures::amounts::{Cents, Kilowatts, MegawattHours, WeightUnit};
 use measures::fault::{Cause, Fault, Layer};
 use rules::sharing::Sharing;
 
@@ -23,71 +23,77 @@ pub fn volume_pool(expense: Cents) -> Cents
 
 // Line 21: the expense less its half, by each participant's month of load plus generation.
 #[derive(Clone, Copy)]
-pub struct VolumeLine<'a> {
-    pub expense: Cents,
-    pub volumes: &'a [MegawattHours],
-}
+pub struct VolumeLine;
 
-impl<'a> ChargeLine for VolumeLine<'a> {
+impl ChargeLine for VolumeLine {
     const NUMBER: u8 = 21;
 
-    ghost number = { 21 };
-
-    fn line_number() -> u8
-        ensures { result ≡ 21 }
-    {
-        Self::NUMBER
-    }
-}
-
-impl<'a> SharedLine for VolumeLine<'a> {
-    type Weight = MegawattHours;
-
-    ghost pool = { λ line. volume_pool line.expense.0 };
-
-    ghost weights = { λ line. line.volumes.now };
-
-    fn pool(&self) -> Cents {
-        volume_pool(self.expense)
-    }
-
-    fn weights(&self) -> &[MegawattHours] {
-        self.volumes
-    }
+    ghost NUMBER = { 21 };
 }
 
 // Line 22: the rest, by each participant's peak load plus peak generation.
 #[derive(Clone, Copy)]
-pub struct PeakLine<'a> {
-    pub expense: Cents,
-    pub peaks: &'a [Kilowatts],
-}
+pub struct PeakLine;
 
-impl<'a> ChargeLine for PeakLine<'a> {
+impl ChargeLine for PeakLine {
     const NUMBER: u8 = 22;
 
-    ghost number = { 22 };
+    ghost NUMBER = { 22 };
+}
 
-    fn line_number() -> u8
-        ensures { result ≡ 22 }
-    {
-        Self::NUMBER
+// A unit of weight that has a line of the expense.
+pub trait ExpenseUnit: WeightUnit {
+    type Line: ChargeLine;
+
+    // The part of an expense that the line shares.
+    ghost part: { ℤ → ℤ };
+
+    fn part(of: Cents) -> Cents
+        ensures { result.0 ≡ part of.0 };
+}
+
+impl ExpenseUnit for MegawattHours {
+    type Line = VolumeLine;
+
+    ghost part = { volume_pool };
+
+    fn part(of: Cents) -> Cents {
+        volume_pool(of)
     }
 }
 
-impl<'a> SharedLine for PeakLine<'a> {
-    type Weight = Kilowatts;
+impl ExpenseUnit for Kilowatts {
+    type Line = PeakLine;
 
-    ghost pool = { λ line. peak_pool line.expense.0 };
+    ghost part = { peak_pool };
 
-    ghost weights = { λ line. line.peaks.now };
+    fn part(of: Cents) -> Cents {
+        peak_pool(of)
+    }
+}
+
+// A line of an expense, with a weight for each participant.
+#[derive(Clone, Copy)]
+pub struct ExpenseLine<'a, U> {
+    pub expense: Cents,
+    pub weights: &'a [U],
+}
+
+impl<'a, U: ExpenseUnit> SharedLine for ExpenseLine<'a, U> {
+    type Line = U::Line;
+
+    type Weight = U;
+
+    ghost pool = { λ line. U.ExpenseUnit.part line.expense.0 };
+
+    ghost weights = { λ line. line.weights.now };
 
     fn pool(&self) -> Cents {
-        peak_pool(self.expense)
+        U::part(self.expense)
     }
 
-    fn weights(&self) -> &[Kilowatts] {
-        self.peaks
+    fn weights(&self) -> &[U] {
+        self.weights
     }
 }
 
@@ -99,10 +105,14 @@ fn is_in_range(expense: Cents) -> bool
 }
 
 // Whether line 22 can be shared among as many participants as line 21; else the refusal.
-fn check_peaks(line: &PeakLine, participants: usize, places: usize) -> Result<(), Fault>
-    ensures { PeaksChecked line.now.expense.0 participants (map (λ w. w.0) line.now.peaks.now) places result }
+fn check_peaks(
+    line: &ExpenseLine<Kilowatts>,
+    participants: usize,
+    places: usize,
+) -> Result<(), Fault>
+    ensures { PeaksChecked line.now.expense.0 participants (map (λ w. w.0) line.now.weights.now) places result }
 {
-    if line.peaks.len() != participants {
+    if line.weights.len() != participants {
         return Err(wrong_count(PeakLine::NUMBER));
     }
     check_line(line, places)
@@ -119,12 +129,18 @@ pub fn share_expense<H: Sharing>(
 ) -> Result<(), Fault>
     ensures { ExpenseAnswered (H.Sharing.shares rule.now) expense.0 (map (λ w. w.0) volumes.now) (map (λ w. w.0) peaks.now) by_volume.old by_volume.new by_peak.old by_peak.new result }
 {
-    let volume_line = VolumeLine { expense, volumes };
-    let peak_line = PeakLine { expense, peaks };
+    let volume_line = ExpenseLine {
+        expense,
+        weights: volumes,
+    };
+    let peak_line = ExpenseLine {
+        expense,
+        weights: peaks,
+    };
     check_line(&volume_line, by_volume.len())?;
     check_peaks(&peak_line, volumes.len(), by_peak.len())?;
     if !is_in_range(expense) {
-        return Err(Fault::new(Cause::ExpenseOutOfRange, Layer::Share, 0));
+        return Err(Fault::new(Cause::ExpenseOutOfRange, Layer::Share, None));
     }
     share_line(&volume_line, rule, by_volume)?;
     share_line(&peak_line, rule, by_peak)

@@ -1,5 +1,6 @@
 // What a participant used of the pool in a month, by which an expense is shared.
 ghost use Rattle.std.specs.Prelude.{◌≡◌, true, false, ◌+ℤ◌, MatchOption};
+ghost use Rattle.std.specs.List.{list_all};
 ghost use Rattle.lines.specs.Figures.{figures_fit, ten_digits};
 
 use measures::amounts::{Kilowatts, MegawattHours};
@@ -20,6 +21,12 @@ fn has_ten_digits(figure: i64) -> bool
     figure.unsigned_abs() < 10_000_000_000
 }
 
+fn have_ten_digits(figures: &[i64]) -> bool
+    ensures { result ≡ list_all ten_digits figures.now }
+{
+    figures.iter().all(|figure| has_ten_digits(*figure))
+}
+
 impl MonthUse {
     // The use with these figures, where each has at most ten digits.
     pub fn new(
@@ -30,11 +37,7 @@ impl MonthUse {
     ) -> Option<MonthUse>
         ensures { MatchOption result (figures_fit load.0 generation.0 peak_load.0 peak_generation.0 ≡ false) (λ u. (u.load ≡ load) × (u.generation ≡ generation) × (u.peak_load ≡ peak_load) × (u.peak_generation ≡ peak_generation)) }
     {
-        if has_ten_digits(load.0)
-            && has_ten_digits(generation.0)
-            && has_ten_digits(peak_load.0)
-            && has_ten_digits(peak_generation.0)
-        {
+        if have_ten_digits(&[load.0, generation.0, peak_load.0, peak_generation.0]) {
             Some(MonthUse {
                 load,
                 generation,

@@ -1,5 +1,5 @@
-use Rattle.std.proofs.Common.{◌≡◌, ◌≤◌, map, length, take}
+use Rattle.std.proofs.Common.{◌≡◌, length, map, take}
 use Rattle.lines.proofs.line.units_of.Given as goal
 
-abbrev pub invariant-loop-i : goal.invariant-loop-i
-invariant-loop-i g l = (l.i ≤ length l.weights) × (length l.units ≡ 64) × (take l.i l.units ≡ take l.i (map g.U.WeightUnit.units l.weights))
+abbrev pub invariant-loop-weight : goal.invariant-loop-weight
+invariant-loop-weight g l = (length l.units.items ≡ l.weight-index) × (l.units.items ≡ map g.L.Weight.WeightUnit.units (take l.weight-index l.weights))
