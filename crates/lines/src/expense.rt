@@ -21,67 +21,72 @@ pub fn volume_pool(expense: Cents) -> Cents
     expense - peak_pool(expense)
 }
 
-// Line 21: the expense less its half, by each participant's month of load plus generation.
-#[derive(Clone, Copy)]
-pub struct VolumeLine;
-
-impl ChargeLine for VolumeLine {
-    const NUMBER: u8 = 21;
-
-    ghost NUMBER = { 21 };
-}
-
-// Line 22: the rest, by each participant's peak load plus peak generation.
-#[derive(Clone, Copy)]
-pub struct PeakLine;
-
-impl ChargeLine for PeakLine {
-    const NUMBER: u8 = 22;
-
-    ghost NUMBER = { 22 };
-}
-
-// A unit of weight that has a line of the expense.
+// A unit of weight by which a part of the expense is shared.
 pub trait ExpenseUnit: WeightUnit {
-    type Line: ChargeLine;
-
-    // The part of an expense that the line shares.
+    // The part of an expense that is shared by weights of this unit.
     ghost part: { ℤ → ℤ };
 
-    fn part(of: Cents) -> Cents
-        ensures { result.0 ≡ part of.0 };
+    fn part(whole: Cents) -> Cents
+        ensures { result.0 ≡ part whole.0 };
 }
 
 impl ExpenseUnit for MegawattHours {
-    type Line = VolumeLine;
-
     ghost part = { volume_pool };
 
-    fn part(of: Cents) -> Cents {
-        volume_pool(of)
+    fn part(whole: Cents) -> Cents {
+        volume_pool(whole)
     }
 }
 
 impl ExpenseUnit for Kilowatts {
-    type Line = PeakLine;
-
     ghost part = { peak_pool };
 
-    fn part(of: Cents) -> Cents {
-        peak_pool(of)
+    fn part(whole: Cents) -> Cents {
+        peak_pool(whole)
     }
 }
 
-// A line of an expense, with a weight for each participant.
+// A line of the expense: its part, by a weight for each participant.
 #[derive(Clone, Copy)]
 pub struct ExpenseLine<'a, U> {
     pub expense: Cents,
     pub weights: &'a [U],
 }
 
-impl<'a, U: ExpenseUnit> SharedLine for ExpenseLine<'a, U> {
-    type Line = U::Line;
+// Line 21: the expense less its half, by each participant's month of load plus generation.
+pub type VolumeLine<'a> = ExpenseLine<'a, MegawattHours>;
 
+// Line 22: the rest, by each participant's peak load plus peak generation.
+pub type PeakLine<'a> = ExpenseLine<'a, Kilowatts>;
+
+impl<'a> ChargeLine for ExpenseLine<'a, MegawattHours> {
+    const NUMBER: u8 = 21;
+
+    ghost number = { 21 };
+
+    fn line_number() -> u8
+        ensures { result ≡ 21 }
+    {
+        Self::NUMBER
+    }
+}
+
+impl<'a> ChargeLine for ExpenseLine<'a, Kilowatts> {
+    const NUMBER: u8 = 22;
+
+    ghost number = { 22 };
+
+    fn line_number() -> u8
+        ensures { result ≡ 22 }
+    {
+        Self::NUMBER
+    }
+}
+
+impl<'a, U: ExpenseUnit> SharedLine for ExpenseLine<'a, U>
+where
+    ExpenseLine<'a, U>: ChargeLine,
+{
     type Weight = U;
 
     ghost pool = { λ line. U.ExpenseUnit.part line.expense.0 };
@@ -105,11 +110,7 @@ fn is_in_range(expense: Cents) -> bool
 }
 
 // Whether line 22 can be shared among as many participants as line 21; else the refusal.
-fn check_peaks(
-    line: &ExpenseLine<Kilowatts>,
-    participants: usize,
-    places: usize,
-) -> Result<(), Fault>
+fn check_peaks(line: &PeakLine, participants: usize, places: usize) -> Result<(), Fault>
     ensures { PeaksChecked line.now.expense.0 participants (map (λ w. w.0) line.now.weights.now) places result }
 {
     if line.weights.len() != participants {

@@ -14,13 +14,14 @@ use rules::sharing::{MOST_WEIGHTS, Sharing, check_shareable};
 pub trait ChargeLine {
     const NUMBER: u8;
 
-    // The line's number, for clauses in generic code.
-    ghost NUMBER: { ℕ };
+    // The line's number, for clauses in generic code, which cannot name the constant.
+    ghost number: { ℕ };
+
+    fn line_number() -> u8
+        ensures { result ≡ number };
 }
 
-pub trait SharedLine {
-    type Line: ChargeLine;
-
+pub trait SharedLine: ChargeLine {
     // The unit in which the line's weights are counted.
     type Weight: WeightUnit;
 
@@ -44,11 +45,11 @@ pub fn wrong_count(number: u8) -> Fault
 
 // The numbers of units of the line's weights; the refusal where they are more than a pool is shared by.
 fn units_of<L: SharedLine>(line: &L) -> Result<ArrayVec<i64, MOST_WEIGHTS>, Fault>
-    ensures { MatchResult result (λ units. units.items ≡ map L.Weight.WeightUnit.units (L.SharedLine.weights line.now)) (λ f. (MOST_WEIGHTS < length (L.SharedLine.weights line.now)) × (f ≡ on_charge_line L.Line.ChargeLine.NUMBER (fault SharingLimits Share None))) }
+    ensures { MatchResult result (λ units. units.items ≡ map L.Weight.WeightUnit.units (L.SharedLine.weights line.now)) (λ f. (MOST_WEIGHTS < length (L.SharedLine.weights line.now)) × (f ≡ on_charge_line L.ChargeLine.number (fault SharingLimits Share None))) }
 {
     let weights = line.weights();
     if weights.len() > MOST_WEIGHTS {
-        return Err(wrong_count(L::Line::NUMBER));
+        return Err(wrong_count(L::line_number()));
     }
     let mut units = ArrayVec::new();
     for weight in weights {
@@ -59,11 +60,11 @@ fn units_of<L: SharedLine>(line: &L) -> Result<ArrayVec<i64, MOST_WEIGHTS>, Faul
 
 // Whether the line's pool can be shared by its weights over so many places; else the refusal.
 pub fn check_line<L: SharedLine>(line: &L, places: usize) -> Result<(), Fault>
-    ensures { LineChecked L.Line.ChargeLine.NUMBER (L.SharedLine.pool line.now) (map L.Weight.WeightUnit.units (L.SharedLine.weights line.now)) places result }
+    ensures { LineChecked L.ChargeLine.number (L.SharedLine.pool line.now) (map L.Weight.WeightUnit.units (L.SharedLine.weights line.now)) places result }
 {
     let units = units_of(line)?;
     let pool = line.pool();
-    check_shareable(pool, &units, places).map_err(|fault| fault.on_charge_line(L::Line::NUMBER))?;
+    check_shareable(pool, &units, places).map_err(|fault| fault.on_charge_line(L::line_number()))?;
     Ok(())
 }
 
@@ -73,10 +74,10 @@ pub fn share_line<L: SharedLine, H: Sharing>(
     rule: &H,
     to: &mut [Cents],
 ) -> Result<(), Fault>
-    ensures { LineShared (H.Sharing.shares rule.now) L.Line.ChargeLine.NUMBER (L.SharedLine.pool line.now) (map L.Weight.WeightUnit.units (L.SharedLine.weights line.now)) to.old to.new result }
+    ensures { LineShared (H.Sharing.shares rule.now) L.ChargeLine.number (L.SharedLine.pool line.now) (map L.Weight.WeightUnit.units (L.SharedLine.weights line.now)) to.old to.new result }
 {
     let units = units_of(line)?;
     rule.share(line.pool(), &units, to)
-        .map_err(|refusal| refusal.on_charge_line(L::Line::NUMBER))?;
+        .map_err(|refusal| refusal.on_charge_line(L::line_number()))?;
     Ok(())
 }
