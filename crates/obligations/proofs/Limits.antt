@@ -1,12 +1,9 @@
 -- No pool and no total weight passes what a sharing rule takes.
-use Rattle.std.proofs.Common.{length, ◌≡◌, ℕ, zero, suc, ◌+◌, ◌*◌, ◌<◌, ◌≤◌, Bool, true, false, cond, not, ◌&&◌, List, [], ◌∷◌, map, ℤ, pos, negsuc, ◌+ℤ◌, ◌-ℤ◌, ◌*ℤ◌, neg_ℤ, nat_abs, ◌≤ℤ◌, Some, None, sum, Option, sym, refl, ap, ◌∙◌, subst, mul-le-mul_right, mul-le-mul_left, arith}
+use Rattle.std.proofs.Common.{◌≡◌, ℕ, zero, suc, ◌+◌, ◌*◌, ◌<◌, ◌≤◌, Bool, true, false, cond, not, ◌&&◌, List, [], ◌∷◌, map, ℤ, pos, negsuc, ◌+ℤ◌, ◌-ℤ◌, ◌*ℤ◌, neg_ℤ, nat_abs, ◌≤ℤ◌, Some, None, sum, Option, sym, refl, ap, ◌∙◌, subst, mul-le-mul_right, mul-le-mul_left, arith}
 use borrow.Author.Differences.{ints}
-use Rattle.std.specs.Int.{is_negative}
-use Rattle.std.specs.List.{AllByRecursion, position_or_len}
-use Rattle.std.specs.Option.{is_none}
-use Rattle.std.proofs.lemmas.Bool.Decides.{nat_tests}
+use Rattle.std.specs.List.{AllByRecursion}
 use Rattle.std.proofs.lemmas.List.Sums.{sum_by-cons}
-use Rattle.std.proofs.lemmas.Bool.{ltb-true, cond-true}
+use Rattle.std.proofs.lemmas.Bool.{ltb-true}
 use Rattle.std.specs.Ordering.{int_eq}
 use Rattle.measures.specs.declared.code.LocationCode.{LocationCode}
 use Rattle.prices.specs.Quotes.{Quote}
@@ -14,8 +11,9 @@ use Rattle.prices.specs.declared.price.Market.{Market}
 use Rattle.prices.specs.declared.price.Market.TheVariants.{DayAhead, RealTime}
 use Rattle.prices.specs.declared.price.Price.{Price}
 use Rattle.prices.specs.Prices.{energy_bound, congestion_bound, loss_bound}
-use Rattle.rules.specs.Sharing.{first_negative, sizes}
+use Rattle.rules.specs.Sharing.{sizes}
 use Rattle.rules.specs.Shareable.{shareable_from}
+use Rattle.rules.specs.Weights.{none_below}
 use Rattle.postings.specs.Kinds.{record_market, bilateral_market, is_load, same_market, same_kind}
 use Rattle.postings.specs.declared.bilateral.Bilateral.{Bilateral}
 use Rattle.postings.specs.declared.bilateral.BilateralKind.{BilateralKind}
@@ -230,17 +228,6 @@ module _ (P : ℕ) (b : Postings) (k : Kept P b) where
       under n a c u v r x h₁ h₂ h₃ h₄ h₅ h₆ h₇ = omega (arith, linear)
 
 -- ---- what a settlement asks of a sharing rule can be asked
-passed : (ns : List ℕ) → position_or_len is_negative (map pos ns) ≡ length (map pos ns)
-passed [] = refl
-passed (n ∷ ns) =
-    let here : not (is_negative (pos n)) ≡ true = grind (arith, nat_tests) in
-    omega (arith, passed ns, cond-true (not (is_negative (pos n))) (1 + position_or_len is_negative (map pos ns)) 0 here)
-
-none_negative : (ns : List ℕ) → is_none (first_negative (map pos ns)) ≡ true
-none_negative ns =
-    let all = passed ns in
-    grind (arith, nat_tests)
-
 sizes_of : (ns : List ℕ) → sizes (map pos ns) ≡ ns
 sizes_of [] = refl
 sizes_of (n ∷ ns) = ap (λ ms. n ∷ ms) (sizes_of ns)
@@ -253,7 +240,7 @@ pools_shareable P b k few t m w =
       each = sym (length_weights b P);
       some = omega (arith, length_weights b P, at_least P b some);
       few = omega (arith, length_weights b P);
-      none_negative = none_negative (weights b P);
+      none_negative = none_below (weights b P);
       positive = omega (arith, size);
       bounded = omega (arith, size, weight_bound P b k);
       product = subst (λ (n : ℕ). nat_abs (revenue_pool b t P m) * n ≤ 9000000000000000000) (sym size) (small (nat_abs (revenue_pool b t P m)) (total_weight b P) (pool_bound P b k t m few) (weight_bound P b k));

@@ -52,7 +52,7 @@ impl Rounding for HalfToEven {
         let whole = size / 1000;
         let rest = size % 1000;
         let up = rest > 500 || rest == 500 && whole % 2 == 1;
-        Cents(with_sign(x.0, if up { whole + 1 } else { whole }))
+        Cents(with_sign(x.0, whole + u64::from(up)))
     }
 }
 
