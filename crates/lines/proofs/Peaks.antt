@@ -1,16 +1,13 @@
 -- The test of line 22, and the refusal of an expense from the tests of its lines.
-use Rattle.std.proofs.Common.{◌≡◌, ℕ, ◌-◌, ◌/◌, Bool, true, false, cond, eqb, List, length, ℤ, pos, negsuc, ◌+ℤ◌, Some, None, Ok, Err, Result, sym, refl, ap, ◌∙◌, subst, arith}
+use Rattle.std.proofs.Common.{◌≡◌, ℕ, ◌-◌, ◌/◌, true, false, eqb, List, length, ℤ, pos, negsuc, ◌+ℤ◌, Some, None, Ok, Err, Result, sym, refl, ap, ◌∙◌, subst, arith}
 use borrow.Author.Differences.{ints}
 use Rattle.std.proofs.lemmas.Bool.{and_parts}
-use Rattle.measures.specs.Faults.{fault}
 use Rattle.measures.specs.declared.amounts.Cents.{Cents}
-use Rattle.measures.specs.declared.fault.Cause.TheVariants.{ExpenseOutOfRange}
 use Rattle.measures.specs.declared.fault.Fault.{Fault}
-use Rattle.measures.specs.declared.fault.Layer.TheVariants.{Share}
 use Rattle.rules.specs.Shareable.{shareable_facts}
 use Rattle.rules.proofs.Within.{fair_within}
 use Rattle.rules.specs.Sharing.{amounts, shareable, total, Fair, Within}
-use Rattle.lines.specs.Expense.{peak_pool, volume_pool, expense_in_range, expense_refusal, peaks_shareable, peaks_fault, ExpenseShared, ExpenseAnswered}
+use Rattle.lines.specs.Expense.{peak_pool, volume_pool, expense_in_range, expense_refusal, peaks_shareable, ExpenseShared, ExpenseAnswered}
 use Rattle.lines.specs.Shared.{line_fault, LineShared}
 use Rattle.lines.proofs.Halves.{pools_add}
 
@@ -18,11 +15,8 @@ use Rattle.lines.proofs.Halves.{pools_add}
 pub refused_volumes : (e : ℤ) (volumes peaks : List ℤ) (m n : ℕ) → shareable (volume_pool e) volumes m ≡ false → expense_refusal e volumes peaks m n ≡ Some (line_fault 21 volumes m)
 refused_volumes e volumes peaks m n a = simp a refl
 
-pub not_refused : (e : ℤ) (volumes peaks : List ℤ) (m n : ℕ) → shareable (volume_pool e) volumes m ≡ true → peaks_shareable e (length volumes) peaks n ≡ true → expense_in_range e ≡ true → expense_refusal e volumes peaks m n ≡ None
-not_refused e volumes peaks m n a b c = simp (a, b, c) refl
-
 -- where line 22 passed its test, its pool can be shared
-pub peaks_pass : (e : ℤ) (participants : ℕ) (peaks : List ℤ) (places : ℕ) → peaks_shareable e participants peaks places ≡ true → shareable (peak_pool e) peaks places ≡ true
+peaks_pass : (e : ℤ) (participants : ℕ) (peaks : List ℤ) (places : ℕ) → peaks_shareable e participants peaks places ≡ true → shareable (peak_pool e) peaks places ≡ true
 peaks_pass e participants peaks places h = (and_parts (eqb (length peaks) participants) _ h).1
 
 -- an accepted line charges nobody less than 0 or more than its pool
@@ -37,7 +31,7 @@ rest_of_half : (n : ℕ) → volume_pool (pos n) ≡ pos (n - n / 2)
 rest_of_half n = omega (arith, ints)
 
 -- both lines shared: every cent of the expense is in one of them
-pub both_shared : (rule : ℤ → List ℤ → List ℤ) (e : ℤ) (volumes peaks : List ℤ) (before21 after21 before22 after22 : List Cents) → expense_in_range e ≡ true → LineShared rule 21 (volume_pool e) volumes before21 after21 (Ok tt) → LineShared rule 22 (peak_pool e) peaks before22 after22 (Ok tt) → ExpenseShared rule e volumes peaks (amounts after21) (amounts after22)
+both_shared : (rule : ℤ → List ℤ → List ℤ) (e : ℤ) (volumes peaks : List ℤ) (before21 after21 before22 after22 : List Cents) → expense_in_range e ≡ true → LineShared rule 21 (volume_pool e) volumes before21 after21 (Ok tt) → LineShared rule 22 (peak_pool e) peaks before22 after22 (Ok tt) → ExpenseShared rule e volumes peaks (amounts after21) (amounts after22)
 both_shared rule (pos n) volumes peaks before21 after21 before22 after22 c a b =
     record {
       by_volume = a.1;
@@ -48,25 +42,17 @@ both_shared rule (pos n) volumes peaks before21 after21 before22 after22 c a b =
       peak_within = line_within rule 22 (peak_pool (pos n)) (n / 2) peaks before22 after22 refl b;
       every_cent = ap (λ (z : ℤ). z +ℤ total (amounts after22)) a.2.adds ∙ ap (λ (z : ℤ). volume_pool (pos n) +ℤ z) b.2.adds ∙ pools_add (pos n);
     }
-both_shared rule (negsuc n) volumes peaks before21 after21 before22 after22 c a b = let z : ◌≡◌ {A = ℕ} 0 1 = cc in absurd (omega arith)
+both_shared rule (negsuc n) volumes peaks before21 after21 before22 after22 c a b = absurd (cc)
 
 -- after both tests and an accepted line 21, line 22 is accepted too
 pub expense_done : (rule : ℤ → List ℤ → List ℤ) (e : ℤ) (volumes peaks : List ℤ) (before21 after21 before22 after22 : List Cents) (r : Result Unit Fault) → shareable (volume_pool e) volumes (length before21) ≡ true → peaks_shareable e (length volumes) peaks (length before22) ≡ true → expense_in_range e ≡ true → LineShared rule 21 (volume_pool e) volumes before21 after21 (Ok tt) → LineShared rule 22 (peak_pool e) peaks before22 after22 r → ExpenseAnswered rule e volumes peaks before21 after21 before22 after22 r
 expense_done rule e volumes peaks before21 after21 before22 after22 (Ok u) a b c x y =
-    (not_refused e volumes peaks (length before21) (length before22) a b c, both_shared rule e volumes peaks before21 after21 before22 after22 c x y)
+    (simp (a, b, c) refl, both_shared rule e volumes peaks before21 after21 before22 after22 c x y)
 expense_done rule e volumes peaks before21 after21 before22 after22 (Err f) a b c x y =
     let yes = peaks_pass e (length volumes) peaks (length before22) b in
     let no = y.0 in
-    let z : ◌≡◌ {A = Bool} true false = sym yes ∙ no in
-    absurd (grind arith)
-
-in_order : (a b c : Bool) (x y z : Fault) → cond a (cond b (cond c None (Some z)) (Some y)) (Some x) ≡ None → c ≡ true
-in_order true true true x y z h = refl
-in_order true true false x y z h = let n : ◌≡◌ {A = ℕ} 0 1 = cc in absurd (omega arith)
-in_order true false c x y z h = let n : ◌≡◌ {A = ℕ} 0 1 = cc in absurd (omega arith)
-in_order false b c x y z h = let n : ◌≡◌ {A = ℕ} 0 1 = cc in absurd (omega arith)
+    absurd (cc)
 
 -- an expense that is not refused is in range
 pub accepted_range : (e : ℤ) (volumes peaks : List ℤ) (m n : ℕ) → expense_refusal e volumes peaks m n ≡ None → expense_in_range e ≡ true
-accepted_range e volumes peaks m n h =
-    in_order (shareable (volume_pool e) volumes m) (peaks_shareable e (length volumes) peaks n) (expense_in_range e) (line_fault 21 volumes m) (peaks_fault (length volumes) peaks n) (fault ExpenseOutOfRange Share None) h
+accepted_range e volumes peaks m n h = grind arith
