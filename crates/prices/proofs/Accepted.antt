@@ -1,12 +1,14 @@
 -- What holds of rows after one that is accepted.
 use Rattle.std.proofs.Common.{◌≡◌, ℕ, ◌<◌, Bool, true, false, cond, not, ltb, List, [], ◌∷◌, ◌++◌, length, None, Option, refl, ap, ◌∙◌, arith}
-use Rattle.std.proofs.lemmas.Bool.{and_from, and_parts, cond-true, ltb-true, not-true}
+use Rattle.std.specs.List.{list_all}
+use Rattle.std.proofs.lemmas.List.Folds.{list_all-append}
+use Rattle.std.proofs.lemmas.Bool.{and_from, cond-true, ltb-true, not-true}
 use Rattle.measures.specs.Codes.{well_formed}
 use Rattle.measures.specs.declared.fault.Cause.{Cause}
 use Rattle.measures.specs.declared.fault.Fault.{Fault}
 use Rattle.prices.specs.Quotes.{AddsPrice, HasPrice}
 use Rattle.prices.specs.Refusals.{unless}
-use Rattle.prices.specs.Rows.{components_in, every, fits_energy, held, has_one_energy, price_of, row_in_range, row_refusal, rows_quote, same_energy}
+use Rattle.prices.specs.Rows.{components_in, fits_energy, held, has_one_energy, price_of, row_in_range, row_refusal, rows_quote, same_energy}
 use Rattle.prices.specs.declared.price.Market.{Market}
 use Rattle.prices.specs.declared.price.Price.{Price}
 use Rattle.prices.specs.declared.row.PriceRow.{PriceRow}
@@ -38,13 +40,12 @@ accepted_row rs r h =
     record { formed = a.0; ranged = b.0; fits = c.0; free = not-true _ d.0; room = ltb-true (length rs) 64 e.0 }
 
 -- one row more that passes a test which all rows pass
-pub every_push : (f : PriceRow → Bool) (rs : List PriceRow) (r : PriceRow) → every f rs ≡ true → f r ≡ true → every f (rs ++ r ∷ []) ≡ true
-every_push f [] r h k = and_from (f r) true k refl
-every_push f (x ∷ rs) r h k = let p = and_parts (f x) (every f rs) h in and_from (f x) (every f (rs ++ r ∷ [])) p.0 (every_push f rs r p.1 k)
+pub all_push : (f : PriceRow → Bool) (rs : List PriceRow) (r : PriceRow) → list_all f rs ≡ true → f r ≡ true → list_all f (rs ++ r ∷ []) ≡ true
+all_push f rs r h k = list_all-append f rs (r ∷ []) ∙ and_from _ _ h (and_from _ _ k refl)
 
 pub energy_push : (rs : List PriceRow) (r : PriceRow) → has_one_energy rs ≡ true → fits_energy rs r ≡ true → has_one_energy (rs ++ r ∷ []) ≡ true
 energy_push [] r h k = refl
-energy_push (f ∷ rs) r h k = every_push (same_energy f) rs r h k
+energy_push (f ∷ rs) r h k = all_push (same_energy f) rs r h k
 
 -- an accepted row gives its code the prices of its components, and no other code another price
 pub row_adds : (rs : List PriceRow) (r : PriceRow) → row_refusal rs r ≡ None → AddsPrice (rows_quote rs) (rows_quote (rs ++ r ∷ [])) r.code (components_in r)

@@ -1,5 +1,7 @@
 -- Price rows: what a list of rows says of a code, and which row may be added.
-use Rattle.std.specs.Prelude.{Bool, true, false, cond, not, ◌&&◌, ◌||◌, List, [], ◌∷◌, length, None, Option, nat_lt}
+use Rattle.std.specs.Prelude.{Bool, true, cond, not, ◌&&◌, List, [], ◌∷◌, length, None, Option, nat_lt}
+use Rattle.std.specs.List.{find, list_all, list_any}
+use Rattle.std.specs.Option.{option_and_then}
 use Rattle.std.specs.Ordering.{int_eq}
 use Rattle.measures.specs.Codes.{well_formed, same_code}
 use Rattle.measures.specs.declared.code.LocationCode.{LocationCode}
@@ -24,10 +26,13 @@ abbrev pub components_in : PriceRow → Market → Components
 components_in r DayAhead = r.day_ahead
 components_in r RealTime = r.real_time
 
--- the price in the first row with this code
+-- the first row with this code
+abbrev pub row_with : List PriceRow → LocationCode → Option PriceRow
+row_with rs c = find (λ r. same_code r.code c) rs
+
+-- its price
 abbrev pub row_quote : List PriceRow → Quote
-row_quote [] c m = None
-row_quote (r ∷ rs) c m = cond (same_code r.code c) (price_of (components_in r m)) (row_quote rs c m)
+row_quote rs c m = option_and_then (λ r. price_of (components_in r m)) (row_with rs c)
 
 -- what the rows say: a malformed code has no price
 abbrev pub rows_quote : List PriceRow → Quote
@@ -35,8 +40,7 @@ rows_quote rs c m = cond (well_formed c) (row_quote rs c m) None
 
 -- some row has this code
 abbrev pub held : List PriceRow → LocationCode → Bool
-held [] c = false
-held (r ∷ rs) c = same_code r.code c || held rs c
+held rs c = list_any (λ r. same_code r.code c) rs
 
 -- all three components are in range
 abbrev pub components_in_range : Components → Bool
@@ -65,12 +69,7 @@ row_refusal rs r =
     (unless (nat_lt (length rs) 64) SourceFull
     None))))
 
--- each row passes the test
-abbrev pub every : (PriceRow → Bool) → List PriceRow → Bool
-every f [] = true
-every f (r ∷ rs) = f r && every f rs
-
 -- each row has the first one's energy components
 abbrev pub has_one_energy : List PriceRow → Bool
 has_one_energy [] = true
-has_one_energy (f ∷ rs) = every (same_energy f) rs
+has_one_energy (f ∷ rs) = list_all (same_energy f) rs

@@ -1,6 +1,6 @@
 // What a list of price rows says of a code, and which row may be added to it.
-ghost use Rattle.std.specs.Prelude.{◌≡◌, Some, None};
-ghost use Rattle.prices.specs.Rows.{components_in, components_in_range, held as holds_code, price_of, row_quote, rows_quote, row_refusal, fits_energy};
+ghost use Rattle.std.specs.Prelude.{◌≡◌, Some, None, Ok, Err, option_copied};
+ghost use Rattle.prices.specs.Rows.{components_in, components_in_range, held as holds_code, price_of, row_with, rows_quote, row_refusal, fits_energy};
 
 use crate::faults::price_fault;
 use crate::price::make::is_in_range;
@@ -23,38 +23,28 @@ fn price_in(row: &PriceRow, market: Market) -> Option<Price>
     Price::new(components.energy, components.congestion, components.loss)
 }
 
-// The price in the first row with this code.
-fn find(rows: &[PriceRow], code: &LocationCode, market: Market) -> Option<Price>
-    ensures { result ≡ row_quote rows.now code.now market }
+// The first row with this code.
+fn find<'a>(rows: &'a [PriceRow], code: &LocationCode) -> Option<&'a PriceRow>
+    ensures { option_copied result ≡ row_with rows.now code.now }
 {
-    for row in rows {
-        if row.code == *code {
-            return price_in(row, market);
-        }
-    }
-    None
+    rows.iter().find(|row| row.code == *code)
 }
 
-// The same, where the code is well-formed.
+// The price in the first row with this code, where the code is well-formed.
 pub(crate) fn quote_in(rows: &[PriceRow], code: &LocationCode, market: Market) -> Option<Price>
     ensures { result ≡ rows_quote rows.now code.now market }
 {
-    if code.is_well_formed() {
-        find(rows, code, market)
-    } else {
-        None
+    if !code.is_well_formed() {
+        return None;
     }
+    let row = find(rows, code)?;
+    price_in(row, market)
 }
 
 fn holds(rows: &[PriceRow], code: &LocationCode) -> bool
     ensures { result ≡ holds_code rows.now code.now }
 {
-    for row in rows {
-        if row.code == *code {
-            return true;
-        }
-    }
-    false
+    rows.iter().any(|row| row.code == *code)
 }
 
 fn are_in_range(components: &Components) -> bool
@@ -78,25 +68,24 @@ fn has_their_energy(rows: &[PriceRow], row: &PriceRow) -> bool
     }
 }
 
-// Why a row may not be added, the first cause that applies.
-pub(crate) fn refusal(rows: &[PriceRow], row: &PriceRow) -> Option<Fault>
-    ensures { result ≡ row_refusal rows.now row.now }
+// Refuses a row that may not be added, for the first cause that applies.
+pub(crate) fn check(rows: &[PriceRow], row: &PriceRow) -> Result<(), Fault>
+    ensures { elim result [ Ok _ ↦ row_refusal rows.now row.now ≡ None | Err f ↦ row_refusal rows.now row.now ≡ Some f ] }
 {
     if !row.code.is_well_formed() {
-        return Some(price_fault(Cause::MalformedCode, None));
+        return Err(price_fault(Cause::MalformedCode, None));
     }
     if !(are_in_range(&row.day_ahead) && are_in_range(&row.real_time)) {
-        return Some(price_fault(Cause::ComponentOutOfRange, None));
+        return Err(price_fault(Cause::ComponentOutOfRange, None));
     }
     if !has_their_energy(rows, row) {
-        return Some(price_fault(Cause::OtherEnergyComponent, None));
+        return Err(price_fault(Cause::OtherEnergyComponent, None));
     }
     if holds(rows, &row.code) {
-        return Some(price_fault(Cause::PricedAlready, None));
+        return Err(price_fault(Cause::PricedAlready, None));
     }
-    if rows.len() < MOST_ROWS {
-        None
-    } else {
-        Some(price_fault(Cause::SourceFull, None))
+    if rows.len() >= MOST_ROWS {
+        return Err(price_fault(Cause::SourceFull, None));
     }
+    Ok(())
 }

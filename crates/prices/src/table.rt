@@ -1,6 +1,7 @@
 // A table of prices, filled row by row.
 ghost use Rattle.std.specs.Prelude.{◌≡◌, ◌≤◌, true, vec_len, vec_capacity};
-ghost use Rattle.prices.specs.Rows.{every, has_one_energy, row_in_range};
+ghost use Rattle.std.specs.List.{list_all};
+ghost use Rattle.prices.specs.Rows.{has_one_energy, row_in_range};
 
 use crate::row::PriceRow;
 
@@ -13,6 +14,6 @@ pub struct PriceTable {
     rows: Vec<PriceRow>,
     ghost few: { vec_len rows ≤ 64 },
     ghost room: { 64 ≤ vec_capacity rows },
-    ghost in_range: { every row_in_range rows.items ≡ true },
+    ghost in_range: { list_all row_in_range rows.items ≡ true },
     ghost one_energy: { has_one_energy rows.items ≡ true },
 }

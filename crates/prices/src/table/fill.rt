@@ -49,9 +49,7 @@ impl PriceTable {
           | Err f ↦ (row_refusal (rows_of self.old) row ≡ Some f) × (self.new ≡ self.old)
         ] }
     {
-        if let Some(why) = rows::refusal(self.rows.as_slice(), &row) {
-            return Err(why);
-        }
+        rows::check(self.rows.as_slice(), &row)?;
         self.push(row);
         Ok(())
     }
