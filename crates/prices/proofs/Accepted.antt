@@ -6,16 +6,17 @@ use Rattle.std.proofs.lemmas.Bool.{and_from, cond-true, ltb-true, not-true}
 use Rattle.measures.specs.Codes.{well_formed}
 use Rattle.measures.specs.declared.fault.Cause.{Cause}
 use Rattle.measures.specs.declared.fault.Fault.{Fault}
+use Rattle.prices.specs.Priced.{price_of}
 use Rattle.prices.specs.Quotes.{AddsPrice, HasPrice}
 use Rattle.prices.specs.Refusals.{unless}
-use Rattle.prices.specs.Rows.{components_in, fits_energy, held, has_one_energy, price_of, row_in_range, row_refusal, rows_quote, same_energy}
+use Rattle.prices.specs.Rows.{components_in, fits_energy, held, has_one_energy, row_in_range, row_refusal, rows_quote, same_energy}
 use Rattle.prices.specs.declared.price.Market.{Market}
 use Rattle.prices.specs.declared.price.Price.{Price}
 use Rattle.prices.specs.declared.row.PriceRow.{PriceRow}
 use Rattle.measures.proofs.Codes.{same_self}
 use Rattle.prices.specs.Found.{found_new, found_other, in_range_some}
 use Rattle.prices.specs.Guarded.{some_value}
-use Rattle.prices.specs.Prices.{priced_congestion, priced_energy, priced_loss}
+use Rattle.prices.specs.Prices.{price_has}
 
 -- a refusal that does not apply: its test passes, and so do the next ones
 pub unless_none : (test : Bool) (c : Cause) (next : Option Fault) → unless test c next ≡ None → (test ≡ true) × (next ≡ None)
@@ -60,7 +61,5 @@ row_adds rs r h = record { its_price = its; the_others = λ c m k. ap (λ (o : O
         record {
           price = v.0;
           said = cond-true _ _ _ a.formed ∙ (found_new rs r r.code m a.free (same_self r.code) ∙ v.1);
-          energy = priced_energy _ _ _ v.0 v.1;
-          congestion = priced_congestion _ _ _ v.0 v.1;
-          loss = priced_loss _ _ _ v.0 v.1;
+          components = price_has _ v.0 v.1;
         }

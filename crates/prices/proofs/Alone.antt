@@ -1,33 +1,35 @@
 -- A price with an energy component alone.
-use Rattle.std.proofs.Common.{◌≡◌, Bool, true, false, ◌&&◌, ℤ, pos, is_some, Some, Option, sym, refl, ap, ◌∙◌}
-use Rattle.std.proofs.lemmas.Bool.{cond-true}
+use Rattle.std.proofs.Common.{◌≡◌, true, false, ℤ, is_some, Some, None, Ok, Err, Option, Result, sym, ap, subst, ◌∙◌, rules}
+use Rattle.std.specs.Option.{ok_or}
+use Rattle.std.proofs.lemmas.Bool.{and_parts, cond-true}
 use Rattle.measures.specs.Codes.{well_formed}
 use Rattle.measures.specs.declared.code.LocationCode.{LocationCode}
-use Rattle.prices.specs.Priced.{priced}
+use Rattle.measures.specs.declared.fault.Cause.TheVariants.{ComponentOutOfRange}
+use Rattle.measures.specs.declared.fault.Fault.{Fault}
+use Rattle.prices.specs.Refusals.{price_fault}
+use Rattle.prices.specs.declared.price.Price.{Price}
+use Rattle.prices.specs.Priced.{price_of}
 use Rattle.prices.specs.Quotes.{HasPrice}
-use Rattle.prices.specs.Range.{in_range}
+use Rattle.prices.specs.Range.{components_in_range, in_range}
 use Rattle.prices.specs.Singles.{energy_alone, price_in, SaysAlone, single_quote}
 use Rattle.prices.specs.declared.price.Market.{Market}
-use Rattle.prices.specs.declared.price.Price.{Price}
 use Rattle.prices.specs.declared.single.SinglePrice.{SinglePrice}
-use Rattle.prices.specs.Prices.{priced_congestion, priced_energy, priced_loss, priced_some}
+use Rattle.prices.specs.Prices.{price_has, price_some}
 
-and_true : (b : Bool) → (b && true) ≡ b
-and_true true = refl
-and_true false = refl
+-- an energy component alone is taken as a price, or refused as out of range
+pub told : (e w : ℤ) (o : Option Price) (r : Result Price Fault) → w ≡ e → o ≡ price_of (energy_alone w) → r ≡ ok_or o (price_fault ComponentOutOfRange None) →
+    elim r as (λ x. Type 0) [ Ok p ↦ p.components ≡ energy_alone e | Err f ↦ (in_range e ≡ false) × (f ≡ price_fault ComponentOutOfRange None) ]
+told e w (Some p) (Ok q) same g h = let k : p ≡ q = cc in subst (λ x. x.components ≡ energy_alone e) k (price_has _ p (sym g) ∙ ap energy_alone same)
+told e w None (Err f) same g h = (search (rules, price_some (energy_alone e), ap is_some g, same), cc)
+told e w (Some p) (Err f) same g h = cc
+told e w None (Ok q) same g h = cc
 
--- there is such a price exactly where its energy component is in range
-pub alone_some : (e : ℤ) (o : Option Price) → o ≡ priced e (pos 0) (pos 0) → in_range e ≡ is_some o
-alone_some e o h = sym (ap is_some h ∙ priced_some e (pos 0) (pos 0) ∙ and_true (in_range e))
+-- a price with an energy component alone has it in range
+pub alone_in_range : (p : Price) (e : ℤ) → p.components ≡ energy_alone e → in_range e ≡ true
+alone_in_range p e h = (and_parts (in_range e) _ (subst (λ x. components_in_range x ≡ true) h p.in_range)).0
 
-has : (s : SinglePrice) (m : Market) (e : ℤ) → Some (price_in s m) ≡ priced e (pos 0) (pos 0) → (c : LocationCode) → well_formed c ≡ true → HasPrice (single_quote s) c m (energy_alone e)
-has s m e h c k = record {
-  price = price_in s m;
-  said = cond-true _ _ _ k;
-  energy = priced_energy e (pos 0) (pos 0) (price_in s m) (sym h);
-  congestion = priced_congestion e (pos 0) (pos 0) (price_in s m) (sym h);
-  loss = priced_loss e (pos 0) (pos 0) (price_in s m) (sym h);
-}
+has : (s : SinglePrice) (m : Market) (e : ℤ) → (price_in s m).components ≡ energy_alone e → (c : LocationCode) → well_formed c ≡ true → HasPrice (single_quote s) c m (energy_alone e)
+has s m e h c k = record { price = price_in s m; said = cond-true _ _ _ k; components = h }
 
-pub says_alone : (s : SinglePrice) (d r : ℤ) → Some s.day_ahead ≡ priced d (pos 0) (pos 0) → Some s.real_time ≡ priced r (pos 0) (pos 0) → SaysAlone (single_quote s) d r
+pub says_alone : (s : SinglePrice) (d r : ℤ) → s.day_ahead.components ≡ energy_alone d → s.real_time.components ≡ energy_alone r → SaysAlone (single_quote s) d r
 says_alone s d r f g = record { in_day_ahead = has s _ d f; in_real_time = has s _ r g }

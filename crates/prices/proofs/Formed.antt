@@ -10,7 +10,7 @@ use Rattle.prices.specs.Means.{all_priced, group_components, group_price}
 use Rattle.prices.specs.Members.{first_failing, weight_in_range, weights_in_range}
 use Rattle.prices.specs.Quotes.{AddsPrice, HasPrice, Quote}
 use Rattle.prices.specs.Refusals.{where_at}
-use Rattle.prices.specs.Rows.{price_of}
+use Rattle.prices.specs.Priced.{price_of}
 use Rattle.prices.specs.declared.group.Group.{Group}
 use Rattle.prices.specs.declared.member.Member.{Member}
 use Rattle.prices.specs.declared.price.Market.{Market}
@@ -21,7 +21,7 @@ use Rattle.measures.proofs.Codes.{same_self}
 use Rattle.prices.proofs.Failing.{none_lacks, none_out}
 use Rattle.prices.specs.Guarded.{some_value}
 use Rattle.prices.specs.Layered.{components_some, laid_push, priced_both}
-use Rattle.prices.specs.Prices.{priced_congestion, priced_energy, priced_loss}
+use Rattle.prices.specs.Prices.{price_has}
 
 where_none : (o : Option ℕ) (c : Cause) (next : Option Fault) → where_at o c next ≡ None → (o ≡ None) × (next ≡ None)
 where_none (Some k) c next h = let z : ◌≡◌ {A = ℕ} 0 1 = cc in absurd (omega arith)
@@ -79,9 +79,7 @@ group_adds q both gs hs c xs h f = record { its_price = its; the_others = others
         record {
           price = v.0;
           said = cond-true _ _ _ a.formed ∙ (laid c m ∙ (cond-true _ _ _ (same_self c) ∙ (cond-true _ _ _ (all_there q both xs m a.priced_there) ∙ v.1)));
-          energy = priced_energy _ _ _ v.0 v.1;
-          congestion = priced_congestion _ _ _ v.0 v.1;
-          loss = priced_loss _ _ _ v.0 v.1;
+          components = price_has _ v.0 v.1;
         }
 
     others : (d : LocationCode) (m : Market) → same_code c d ≡ false → layer_quote q hs d m ≡ layer_quote q gs d m

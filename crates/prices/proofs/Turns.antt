@@ -4,7 +4,7 @@ use lib.IntN.{+ℤ_assoc, +ℤ_idr}
 use Rattle.std.proofs.lemmas.Bool.{and_left, cond-true, cond-false}
 use Rattle.prices.specs.Means.{all_priced, component, congestion_of, energy_of, first_energy, group_price, loss_of, nearest_mean, weighted_mean, weighted_sum}
 use Rattle.prices.specs.Members.{total_weight}
-use Rattle.prices.specs.Priced.{priced}
+use Rattle.prices.specs.Priced.{price_of}
 use Rattle.prices.specs.Quotes.{Quote}
 use Rattle.prices.specs.declared.member.Member.{Member}
 use Rattle.prices.specs.declared.price.Market.{Market}
@@ -34,7 +34,7 @@ mean_end part q m xs i s w h f g =
     let total : w ≡ total_weight xs = (let e = total_end xs i h in omega arith) in
     ap₂ nearest_mean (sym (+ℤ_idr s) ∙ (ap (λ (z : ℤ). s +ℤ z) (sym (sum_end part q m xs i h)) ∙ f)) total
 
-pub mean_is : (q : Quote) (m : Market) (xs : List Member) (d : Member) (e c l : ℤ) (o : Option Price) → 1 ≤ length xs → all_priced q m xs ≡ true → e ≡ component energy_of (q (get_or xs 0 d).code m) → c ≡ weighted_mean congestion_of q m xs → l ≡ weighted_mean loss_of q m xs → o ≡ priced e c l → o ≡ group_price q m xs
+pub mean_is : (q : Quote) (m : Market) (xs : List Member) (d : Member) (e c l : ℤ) (o : Option Price) → 1 ≤ length xs → all_priced q m xs ≡ true → e ≡ component energy_of (q (get_or xs 0 d).code m) → c ≡ weighted_mean congestion_of q m xs → l ≡ weighted_mean loss_of q m xs → o ≡ price_of (record { energy = e; congestion = c; loss = l }) → o ≡ group_price q m xs
 mean_is q m xs d e c l o h all f g k ho =
     let f' = f ∙ sym (first_energy_is q m xs d h) in
-    ho ∙ (ap (λ (z : ℤ). priced z c l) f' ∙ (ap₂ (priced (first_energy q m xs)) g k ∙ sym (cond-true (all_priced q m xs) _ _ all)))
+    ho ∙ (ap (λ (z : ℤ). price_of (record { energy = z; congestion = c; loss = l })) f' ∙ (ap₂ (λ (y z : ℤ). price_of (record { energy = first_energy q m xs; congestion = y; loss = z })) g k ∙ sym (cond-true (all_priced q m xs) _ _ all)))

@@ -9,12 +9,15 @@ use Rattle.measures.specs.Codes.{same_code}
 use Rattle.measures.specs.declared.code.LocationCode.{LocationCode}
 use Rattle.measures.proofs.Numbers.{int_eq_self, int_eq_true}
 use Rattle.std.specs.Ordering.{int_eq}
-use Rattle.prices.specs.Rows.{components_in, components_in_range, held, has_one_energy, price_of, row_in_range, row_quote, same_energy}
+use Rattle.prices.specs.Rows.{components_in, held, has_one_energy, row_in_range, row_quote, same_energy}
 use Rattle.prices.specs.declared.price.Market.{Market}
 use Rattle.prices.specs.declared.price.Market.TheVariants.{DayAhead, RealTime}
 use Rattle.prices.specs.declared.price.Price.{Price}
+use Rattle.prices.specs.declared.row.Components.{Components}
 use Rattle.prices.specs.declared.row.PriceRow.{PriceRow}
-use Rattle.prices.specs.Prices.{priced_energy, priced_some}
+use Rattle.prices.specs.Priced.{price_of}
+use Rattle.prices.specs.Prices.{price_has, price_some}
+use Rattle.prices.specs.Range.{components_in_range}
 
 -- what a search finds passes each test that all pass
 found_passes : {X : Type 0} (wanted test : X → Bool) (xs : List X) (y : X) → list_all test xs ≡ true → find wanted xs ≡ Some y → test y ≡ true
@@ -51,8 +54,8 @@ found_other rs r c m k = ap (option_and_then (λ (x : PriceRow). price_of (compo
 
 -- components in range make a price
 pub in_range_some : (r : PriceRow) (m : Market) → row_in_range r ≡ true → is_some (price_of (components_in r m)) ≡ true
-in_range_some r DayAhead h = priced_some _ _ _ ∙ (and_parts _ _ h).0
-in_range_some r RealTime h = priced_some _ _ _ ∙ (and_parts (components_in_range r.day_ahead) _ h).1
+in_range_some r DayAhead h = price_some _ ∙ (and_parts _ _ h).0
+in_range_some r RealTime h = price_some _ ∙ (and_parts (components_in_range r.day_ahead) _ h).1
 
 -- rows in range have a price of a code in both markets or in neither
 pub found_both : (rs : List PriceRow) (c : LocationCode) → list_all row_in_range rs ≡ true → is_some (row_quote rs c DayAhead) ≡ is_some (row_quote rs c RealTime)
@@ -70,12 +73,12 @@ same_in DayAhead f r h = int_eq_true _ _ (and_parts _ _ h).0
 same_in RealTime f r h = int_eq_true _ _ (and_parts (int_eq f.day_ahead.energy r.day_ahead.energy) _ h).1
 
 -- a price found in rows with the energy components of f has them too
-found_energy : (m : Market) (f : PriceRow) (rs : List PriceRow) (c : LocationCode) (p : Price) → list_all (same_energy f) rs ≡ true → row_quote (f ∷ rs) c m ≡ Some p → p.energy ≡ (components_in f m).energy
+found_energy : (m : Market) (f : PriceRow) (rs : List PriceRow) (c : LocationCode) (p : Price) → list_all (same_energy f) rs ≡ true → row_quote (f ∷ rs) c m ≡ Some p → p.components.energy ≡ (components_in f m).energy
 found_energy m f rs c p h e =
     option_and_then_some _ (find (λ (r : PriceRow). same_code r.code c) (f ∷ rs)) p e
-    (λ r found priced. priced_energy _ _ _ p priced ∙ same_in m f r (found_passes (λ (x : PriceRow). same_code x.code c) (same_energy f) (f ∷ rs) r (and_from _ _ (same_itself f) h) found))
+    (λ r found priced. ap (λ (x : Components). x.energy) (price_has _ p priced) ∙ same_in m f r (found_passes (λ (x : PriceRow). same_code x.code c) (same_energy f) (f ∷ rs) r (and_from _ _ (same_itself f) h) found))
 
 -- two prices that rows with one energy component in each market give have it both
-pub found_alike : (rs : List PriceRow) (m : Market) (c d : LocationCode) (p q : Price) → has_one_energy rs ≡ true → row_quote rs c m ≡ Some p → row_quote rs d m ≡ Some q → p.energy ≡ q.energy
+pub found_alike : (rs : List PriceRow) (m : Market) (c d : LocationCode) (p q : Price) → has_one_energy rs ≡ true → row_quote rs c m ≡ Some p → row_quote rs d m ≡ Some q → p.components.energy ≡ q.components.energy
 found_alike [] m c d p q h e k = let z : ◌≡◌ {A = ℕ} 0 1 = cc in absurd (omega arith)
 found_alike (f ∷ rs) m c d p q h e k = found_energy m f rs c p h e ∙ sym (found_energy m f rs d q h k)

@@ -9,14 +9,15 @@ use Rattle.prices.specs.Layers.{laid_over, members_of}
 use Rattle.prices.specs.Means.{all_priced, component, congestion_of, energy_of, first_energy, group_components, group_price, loss_of, weighted_mean, weighted_sum}
 use Rattle.prices.specs.Members.{total_weight, weights_in_range}
 use Rattle.prices.specs.Quotes.{Quote}
-use Rattle.prices.specs.Rows.{price_of}
+use Rattle.prices.specs.Priced.{price_of}
 use Rattle.prices.specs.declared.group.Group.{Group}
 use Rattle.prices.specs.declared.member.Member.{Member}
 use Rattle.prices.specs.declared.price.Market.{Market}
 use Rattle.prices.specs.declared.price.Market.TheVariants.{DayAhead, RealTime}
 use Rattle.prices.specs.declared.price.Price.{Price}
+use Rattle.prices.specs.declared.row.Components.{Components}
 use Rattle.prices.specs.Guarded.{guard_passed, guarded}
-use Rattle.prices.specs.Prices.{congestion_bound, energy_bound, loss_bound, priced_energy, priced_some}
+use Rattle.prices.specs.Prices.{congestion_bound, energy_bound, loss_bound, price_has, price_some}
 use Rattle.prices.specs.Summed.{nearest_bound, total_positive, weighted_bound}
 
 -- what is said after one group
@@ -50,7 +51,7 @@ mean_bound part b q m xs h k = nearest_bound (weighted_sum part q m xs) (total_w
 -- so they make a price
 pub components_some : (q : Quote) (m : Market) (xs : List Member) → 1 ≤ length xs → weights_in_range xs ≡ true → is_some (price_of (group_components q xs m)) ≡ true
 components_some q m xs h k =
-    priced_some _ _ _
+    price_some _
     ∙ and_from _ _ (le-leb _ 100000 (first_bound q m xs))
     (and_from _ _ (le-leb _ 100000 (mean_bound congestion_of congestion_bound q m xs h k)) (le-leb _ 100000 (mean_bound loss_of loss_bound q m xs h k)))
 
@@ -85,14 +86,14 @@ pub record FromBelow (q : Quote) (m : Market) (p : Price) : Type 0 where
   pub at : LocationCode
   pub there : Price
   pub said : q at m ≡ Some there
-  pub same : p.energy ≡ there.energy
+  pub same : p.components.energy ≡ there.components.energy
 
 group_below : (q : Quote) (m : Market) (xs : List Member) (p : Price) → 1 ≤ length xs → group_price q m xs ≡ Some p → FromBelow q m p
 group_below q m [] p h e = absurd (omega arith)
 group_below q m (x ∷ xs) p h e = first (q x.code m) refl (and_parts _ _ (guard_passed (all_priced q m (x ∷ xs)) _ p e)).0
   where
     first : (o : Option Price) → q x.code m ≡ o → is_some o ≡ true → FromBelow q m p
-    first (Some there) f k = record { at = x.code; there = there; said = f; same = priced_energy _ _ _ p (guarded (all_priced q m (x ∷ xs)) _ p e) ∙ ap (component energy_of) f }
+    first (Some there) f k = record { at = x.code; there = there; said = f; same = ap (λ (y : Components). y.energy) (price_has _ p (guarded (all_priced q m (x ∷ xs)) _ p e)) ∙ ap (component energy_of) f }
     first None f k = let z : ◌≡◌ {A = ℕ} 0 1 = cc in absurd (omega arith)
 
 -- so each price over the groups has an energy component from below

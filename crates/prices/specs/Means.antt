@@ -3,7 +3,7 @@ use Rattle.std.specs.Prelude.{ℕ, ◌+◌, ◌*◌, ◌/◌, Bool, true, cond, 
 use Rattle.measures.specs.Signs.{signed}
 use Rattle.prices.specs.Members.{total_weight}
 use Rattle.prices.specs.Quotes.{Quote}
-use Rattle.prices.specs.Rows.{price_of}
+use Rattle.prices.specs.Priced.{price_of}
 use Rattle.prices.specs.declared.member.Member.{Member}
 use Rattle.prices.specs.declared.price.Market.{Market}
 use Rattle.prices.specs.declared.price.Price.{Price}
@@ -15,15 +15,15 @@ nearest_mean x w = signed x ((2 * unsigned_abs x + w) / (2 * w))
 
 -- the energy component
 abbrev pub energy_of : Price → ℤ
-energy_of p = p.energy
+energy_of p = p.components.energy
 
 -- the congestion component
 abbrev pub congestion_of : Price → ℤ
-congestion_of p = p.congestion
+congestion_of p = p.components.congestion
 
 -- the loss component
 abbrev pub loss_of : Price → ℤ
-loss_of p = p.loss
+loss_of p = p.components.loss
 
 -- a component of a price, 0 where there is no price
 abbrev pub component : (Price → ℤ) → Option Price → ℤ

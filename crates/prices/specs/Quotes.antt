@@ -14,9 +14,7 @@ Quote = LocationCode → Market → Option Price
 pub record HasPrice (q : Quote) (c : LocationCode) (m : Market) (parts : Components) : Type 0 where
   pub price : Price
   pub said : q c m ≡ Some price
-  pub energy : price.energy ≡ parts.energy
-  pub congestion : price.congestion ≡ parts.congestion
-  pub loss : price.loss ≡ parts.loss
+  pub components : price.components ≡ parts
 
 -- one code more: it has in each market the price with these components, and every other code has what it had
 pub record AddsPrice (before after : Quote) (code : LocationCode) (parts : Market → Components) : Type 0 where

@@ -7,19 +7,14 @@ use Rattle.measures.specs.Codes.{well_formed, same_code}
 use Rattle.measures.specs.declared.code.LocationCode.{LocationCode}
 use Rattle.measures.specs.declared.fault.Cause.TheVariants.{MalformedCode, ComponentOutOfRange, OtherEnergyComponent, PricedAlready, SourceFull}
 use Rattle.measures.specs.declared.fault.Fault.{Fault}
-use Rattle.prices.specs.Priced.{priced}
+use Rattle.prices.specs.Priced.{price_of}
 use Rattle.prices.specs.Quotes.{Quote}
-use Rattle.prices.specs.Range.{in_range}
+use Rattle.prices.specs.Range.{components_in_range}
 use Rattle.prices.specs.Refusals.{unless}
 use Rattle.prices.specs.declared.price.Market.{Market}
 use Rattle.prices.specs.declared.price.Market.TheVariants.{DayAhead, RealTime}
-use Rattle.prices.specs.declared.price.Price.{Price}
 use Rattle.prices.specs.declared.row.Components.{Components}
 use Rattle.prices.specs.declared.row.PriceRow.{PriceRow}
-
--- the price with these components, where they are in range
-abbrev pub price_of : Components → Option Price
-price_of x = priced x.energy x.congestion x.loss
 
 -- a row's components in a market
 abbrev pub components_in : PriceRow → Market → Components
@@ -41,10 +36,6 @@ rows_quote rs c m = cond (well_formed c) (row_quote rs c m) None
 -- some row has this code
 abbrev pub held : List PriceRow → LocationCode → Bool
 held rs c = list_any (λ r. same_code r.code c) rs
-
--- all three components are in range
-abbrev pub components_in_range : Components → Bool
-components_in_range x = in_range x.energy && (in_range x.congestion && in_range x.loss)
 
 -- all six components are in range
 abbrev pub row_in_range : PriceRow → Bool

@@ -16,6 +16,7 @@ use crate::group::Group;
 use crate::groups::{GroupTable, MOST_GROUPS};
 use crate::member::{MOST_MEMBERS, Member};
 use crate::price::{Market, Price};
+use crate::row::Components;
 use crate::source::PriceSource;
 use crate::sums::{Sums, mean_nearest};
 use measures::code::LocationCode;
@@ -47,11 +48,11 @@ fn mean_price<S: PriceSource>(below: &S, members: &[Member], market: Market) -> 
         let price = below.price(&member.code, market)?;
         sums = sums.with(&price, member.weight);
     }
-    Price::new(
-        first.energy(),
-        mean_nearest(sums.congestion, sums.weight),
-        mean_nearest(sums.loss, sums.weight),
-    )
+    Price::new(Components {
+        energy: first.energy(),
+        congestion: mean_nearest(sums.congestion, sums.weight),
+        loss: mean_nearest(sums.loss, sums.weight),
+    })
 }
 
 // What the groups in turn say of a code, over what is said below.

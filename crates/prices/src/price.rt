@@ -1,23 +1,53 @@
 // Prices: whole cents per MWh, in three components.
 ghost use Rattle.std.specs.Prelude.{◌≡◌, true};
-ghost use Rattle.prices.specs.Range.{in_range};
+ghost use Rattle.prices.specs.Range.{components_in_range};
 
-pub(crate) mod make;
+use crate::row::Components;
 
 // The market that a price belongs to.
-#[derive(Clone, Copy)]
+#[derive(Clone, Copy, PartialEq, Eq, Debug)]
 pub enum Market {
     DayAhead,
     RealTime,
 }
 
-// The price of a location in a market, in whole cents per MWh. Each component is from -100,000 to 100,000.
-#[derive(Clone, Copy)]
+// The price of a location in a market, whose components are in range.
+#[derive(Clone, Copy, PartialEq, Eq, Debug)]
 pub struct Price {
-    energy: i64,
-    congestion: i64,
-    loss: i64,
-    ghost energy_in_range: { in_range energy ≡ true },
-    ghost congestion_in_range: { in_range congestion ≡ true },
-    ghost loss_in_range: { in_range loss ≡ true },
+    components: Components,
+    ghost in_range: { components_in_range components ≡ true },
+}
+
+impl Price {
+    ghost use Rattle.std.specs.Prelude.{◌≡◌};
+    ghost use Rattle.prices.specs.Priced.{price_of};
+
+    // The price with these components, where they are in range.
+    pub fn new(components: Components) -> Option<Price>
+        ensures { result ≡ price_of components }
+    {
+        if components.are_in_range() {
+            Some(Price { components })
+        } else {
+            None
+        }
+    }
+
+    pub fn energy(&self) -> i64
+        ensures { result ≡ self.now.components.energy }
+    {
+        self.components.energy
+    }
+
+    pub fn congestion(&self) -> i64
+        ensures { result ≡ self.now.components.congestion }
+    {
+        self.components.congestion
+    }
+
+    pub fn loss(&self) -> i64
+        ensures { result ≡ self.now.components.loss }
+    {
+        self.components.loss
+    }
 }

@@ -1,11 +1,11 @@
 // What a list of price rows says of a code, and which row may be added to it.
 ghost use Rattle.std.specs.Prelude.{◌≡◌, Some, None, Ok, Err, option_copied};
-ghost use Rattle.prices.specs.Rows.{components_in, components_in_range, held as holds_code, price_of, row_with, rows_quote, row_refusal, fits_energy};
+ghost use Rattle.prices.specs.Priced.{price_of};
+ghost use Rattle.prices.specs.Rows.{components_in, held as holds_code, row_with, rows_quote, row_refusal, fits_energy};
 
 use crate::faults::price_fault;
-use crate::price::make::is_in_range;
 use crate::price::{Market, Price};
-use crate::row::{Components, PriceRow};
+use crate::row::PriceRow;
 use measures::code::LocationCode;
 use measures::fault::{Cause, Fault};
 
@@ -16,11 +16,10 @@ pub(crate) const MOST_ROWS: usize = 64;
 fn price_in(row: &PriceRow, market: Market) -> Option<Price>
     ensures { result ≡ price_of (components_in row.now market) }
 {
-    let components = match market {
+    Price::new(match market {
         Market::DayAhead => row.day_ahead,
         Market::RealTime => row.real_time,
-    };
-    Price::new(components.energy, components.congestion, components.loss)
+    })
 }
 
 // The first row with this code.
@@ -47,14 +46,6 @@ fn holds(rows: &[PriceRow], code: &LocationCode) -> bool
     rows.iter().any(|row| row.code == *code)
 }
 
-fn are_in_range(components: &Components) -> bool
-    ensures { result ≡ components_in_range components.now }
-{
-    is_in_range(components.energy)
-        && is_in_range(components.congestion)
-        && is_in_range(components.loss)
-}
-
 // Whether a row has the energy components of the rows before it, which the first one fixes.
 fn has_their_energy(rows: &[PriceRow], row: &PriceRow) -> bool
     ensures { result ≡ fits_energy rows.now row.now }
@@ -75,7 +66,7 @@ pub(crate) fn check(rows: &[PriceRow], row: &PriceRow) -> Result<(), Fault>
     if !row.code.is_well_formed() {
         return Err(price_fault(Cause::MalformedCode, None));
     }
-    if !(are_in_range(&row.day_ahead) && are_in_range(&row.real_time)) {
+    if !(row.day_ahead.are_in_range() && row.real_time.are_in_range()) {
         return Err(price_fault(Cause::ComponentOutOfRange, None));
     }
     if !has_their_energy(rows, row) {

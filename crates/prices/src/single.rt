@@ -1,17 +1,17 @@
 // One energy component per market for every location.
-ghost use Rattle.std.specs.Prelude.{◌≡◌, true, false, ◌&&◌, pos, Some, Ok, Err, refl};
+ghost use Rattle.std.specs.Prelude.{◌≡◌, true, false, ◌&&◌, Some, Ok, Err, refl};
 ghost use Rattle.std.proofs.Common.{rules};
 ghost use Rattle.measures.specs.declared.fault.Cause.TheVariants.{ComponentOutOfRange};
-ghost use Rattle.prices.specs.Priced.{priced};
 ghost use Rattle.prices.specs.Range.{in_range};
 ghost use Rattle.prices.specs.Refusals.{price_fault};
-ghost use Rattle.prices.specs.Singles.{single_quote, SaysAlone, price_in};
+ghost use Rattle.prices.specs.Singles.{energy_alone as alone, single_quote, SaysAlone, price_in};
 ghost use Rattle.measures.specs.Codes.{well_formed};
 ghost use Rattle.prices.specs.Guarded.{guard_both, guarded_alike};
 ghost use Rattle.prices.specs.declared.price.Price.{Price};
 
 use crate::faults;
 use crate::price::{Market, Price};
+use crate::row::Components;
 use crate::source::PriceSource;
 use measures::code::LocationCode;
 use measures::fault::{Cause, Fault};
@@ -23,11 +23,16 @@ pub struct SinglePrice {
     real_time: Price,
 }
 
-// The price with an energy component alone, where it is in range.
-fn energy_alone(energy: i64) -> Option<Price>
-    ensures { result ≡ priced energy (pos 0) (pos 0) }
+// The price with an energy component alone; refused where it is out of range.
+fn energy_alone(energy: i64) -> Result<Price, Fault>
+    ensures { elim result [ Ok p ↦ p.components ≡ alone energy | Err f ↦ (in_range energy ≡ false) × (f ≡ price_fault ComponentOutOfRange None) ] }
 {
-    Price::new(energy, 0, 0)
+    Price::new(Components {
+        energy,
+        congestion: 0,
+        loss: 0,
+    })
+    .ok_or(faults::price_fault(Cause::ComponentOutOfRange, None))
 }
 
 impl SinglePrice {
@@ -38,15 +43,9 @@ impl SinglePrice {
           | Err f ↦ ((in_range day_ahead && in_range real_time) ≡ false) × (f ≡ price_fault ComponentOutOfRange None)
         ] }
     {
-        let Some(day_ahead) = energy_alone(day_ahead) else {
-            return Err(faults::price_fault(Cause::ComponentOutOfRange, None));
-        };
-        let Some(real_time) = energy_alone(real_time) else {
-            return Err(faults::price_fault(Cause::ComponentOutOfRange, None));
-        };
         Ok(SinglePrice {
-            day_ahead,
-            real_time,
+            day_ahead: energy_alone(day_ahead)?,
+            real_time: energy_alone(real_time)?,
         })
     }
 }
@@ -58,7 +57,7 @@ impl PriceSource for SinglePrice {
 
     ghost both = { λ s c. guard_both (well_formed c) _ _ refl };
 
-    ghost alike = { λ s c d m p q e f. guarded_alike (λ (x : Price). x.energy) (well_formed c) (well_formed d) (price_in s m) p q e f };
+    ghost alike = { λ s c d m p q e f. guarded_alike (λ (x : Price). x.components.energy) (well_formed c) (well_formed d) (price_in s m) p q e f };
 
     fn price(&self, code: &LocationCode, market: Market) -> Option<Price> {
         if !code.is_well_formed() {

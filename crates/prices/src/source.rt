@@ -24,5 +24,5 @@ pub trait PriceSource {
     ghost both: { (s : Self) (c : LocationCode) → is_some (quote s c DayAhead) ≡ is_some (quote s c RealTime) };
 
     // Within one market all prices have the same energy component.
-    ghost alike: { (s : Self) (c d : LocationCode) (m : Market) (p q : Price) → quote s c m ≡ Some p → quote s d m ≡ Some q → p.energy ≡ q.energy };
+    ghost alike: { (s : Self) (c d : LocationCode) (m : Market) (p q : Price) → quote s c m ≡ Some p → quote s d m ≡ Some q → p.components.energy ≡ q.components.energy };
 }

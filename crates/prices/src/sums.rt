@@ -42,8 +42,8 @@ impl Sums {
         requires congestion { unsigned_abs self.now.congestion ≤ 800000000 }
         requires loss { unsigned_abs self.now.loss ≤ 800000000 }
         ensures weights { result.weight ≡ self.now.weight + unsigned_abs weight }
-        ensures congestions { result.congestion ≡ self.now.congestion +ℤ (price.now.congestion *ℤ weight) }
-        ensures losses { result.loss ≡ self.now.loss +ℤ (price.now.loss *ℤ weight) }
+        ensures congestions { result.congestion ≡ self.now.congestion +ℤ (price.now.components.congestion *ℤ weight) }
+        ensures losses { result.loss ≡ self.now.loss +ℤ (price.now.components.loss *ℤ weight) }
         ensures congestion_bound { unsigned_abs result.congestion ≤ unsigned_abs self.now.congestion + 100000000 }
         ensures loss_bound { unsigned_abs result.loss ≤ unsigned_abs self.now.loss + 100000000 }
     {
