@@ -1,15 +1,16 @@
 -- What holds of rows after one that is accepted.
-use Rattle.std.proofs.Common.{◌≡◌, ℕ, ◌<◌, Bool, true, false, cond, not, ltb, List, [], ◌∷◌, ◌++◌, length, None, Option, refl, ap, ◌∙◌, arith}
+use Rattle.std.proofs.Common.{◌≡◌, ◌<◌, Bool, true, false, cond, not, ltb, List, [], ◌∷◌, ◌++◌, length, Some, None, Option, refl, ap, ◌∙◌}
 use Rattle.std.specs.List.{list_all}
 use Rattle.std.proofs.lemmas.List.Folds.{list_all-append}
 use Rattle.std.proofs.lemmas.Bool.{and_from, cond-true, ltb-true, not-true}
 use Rattle.measures.specs.Codes.{well_formed}
 use Rattle.measures.specs.declared.fault.Cause.{Cause}
+use Rattle.measures.specs.declared.fault.Cause.TheVariants.{MalformedCode, ComponentOutOfRange, OtherEnergyComponent, PricedAlready, SourceFull}
 use Rattle.measures.specs.declared.fault.Fault.{Fault}
 use Rattle.prices.specs.Priced.{price_of}
 use Rattle.prices.specs.Quotes.{AddsPrice, HasPrice}
-use Rattle.prices.specs.Refusals.{unless}
-use Rattle.prices.specs.Rows.{components_in, fits_energy, held, has_one_energy, row_in_range, row_refusal, rows_quote, same_energy}
+use Rattle.prices.specs.Refusals.{first_of, unless}
+use Rattle.prices.specs.Rows.{components_in, fits_energy, held, has_one_energy, row_in_range, row_refusal, row_refusals, rows_quote, same_energy}
 use Rattle.prices.specs.declared.price.Market.{Market}
 use Rattle.prices.specs.declared.price.Price.{Price}
 use Rattle.prices.specs.declared.row.PriceRow.{PriceRow}
@@ -18,10 +19,20 @@ use Rattle.prices.specs.Found.{found_new, found_other, in_range_some}
 use Rattle.prices.specs.Guarded.{some_value}
 use Rattle.prices.specs.Prices.{price_has}
 
--- a refusal that does not apply: its test passes, and so do the next ones
-pub unless_none : (test : Bool) (c : Cause) (next : Option Fault) → unless test c next ≡ None → (test ≡ true) × (next ≡ None)
-unless_none true c next h = (refl, h)
-unless_none false c next h = let z : ◌≡◌ {A = ℕ} 0 1 = cc in absurd (omega arith)
+-- where no refusal is the first that applies, none does
+abbrev pub NoneOf : List (Option Fault) → Type 0
+NoneOf [] = Unit {0}
+NoneOf (o ∷ os) = (o ≡ None) × NoneOf os
+
+pub none_of : (os : List (Option Fault)) → first_of os ≡ None → NoneOf os
+none_of [] h = tt
+none_of (None ∷ os) h = (refl, none_of os h)
+none_of (Some f ∷ os) h = cc
+
+-- a test that refuses nothing passes
+pub unless_none : (test : Bool) (c : Cause) → unless test c ≡ None → test ≡ true
+unless_none true c h = refl
+unless_none false c h = cc
 
 -- what an accepted row has
 pub record AcceptedRow (rs : List PriceRow) (r : PriceRow) : Type 0 where
@@ -33,12 +44,14 @@ pub record AcceptedRow (rs : List PriceRow) (r : PriceRow) : Type 0 where
 
 pub accepted_row : (rs : List PriceRow) (r : PriceRow) → row_refusal rs r ≡ None → AcceptedRow rs r
 accepted_row rs r h =
-    let a = unless_none (well_formed r.code) _ _ h in
-    let b = unless_none (row_in_range r) _ _ a.1 in
-    let c = unless_none (fits_energy rs r) _ _ b.1 in
-    let d = unless_none (not (held rs r.code)) _ _ c.1 in
-    let e = unless_none (ltb (length rs) 64) _ _ d.1 in
-    record { formed = a.0; ranged = b.0; fits = c.0; free = not-true _ d.0; room = ltb-true (length rs) 64 e.0 }
+    let n = none_of (row_refusals rs r) h in
+    record {
+      formed = unless_none (well_formed r.code) MalformedCode n.0;
+      ranged = unless_none (row_in_range r) ComponentOutOfRange n.1.0;
+      fits = unless_none (fits_energy rs r) OtherEnergyComponent n.1.1.0;
+      free = not-true _ (unless_none (not (held rs r.code)) PricedAlready n.1.1.1.0);
+      room = ltb-true (length rs) 64 (unless_none (ltb (length rs) 64) SourceFull n.1.1.1.1.0);
+    }
 
 -- one row more that passes a test which all rows pass
 pub all_push : (f : PriceRow → Bool) (rs : List PriceRow) (r : PriceRow) → list_all f rs ≡ true → f r ≡ true → list_all f (rs ++ r ∷ []) ≡ true

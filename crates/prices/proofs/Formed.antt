@@ -1,13 +1,15 @@
 -- What holds of a layer after a group that is accepted.
-use Rattle.std.proofs.Common.{◌≡◌, ℕ, ◌<◌, ◌≤◌, true, false, cond, not, ltb, leb, List, length, is_some, Some, None, Option, sym, refl, ap, ◌∙◌, arith}
+use Rattle.std.proofs.Common.{◌≡◌, ℕ, ◌+◌, ◌<◌, ◌≤◌, Bool, true, false, cond, not, ltb, leb, List, length, is_some, Some, None, Option, sym, refl, ap, ◌∙◌}
+use Rattle.std.specs.List.{list_all, position}
+use Rattle.std.specs.Option.{option_map}
 use Rattle.std.proofs.lemmas.Bool.{and_parts, cond-false, cond-true, leb-true, ltb-true}
 use Rattle.measures.specs.Codes.{same_code, well_formed}
 use Rattle.measures.specs.declared.code.LocationCode.{LocationCode}
 use Rattle.measures.specs.declared.fault.Cause.{Cause}
-use Rattle.measures.specs.declared.fault.Fault.{Fault}
-use Rattle.prices.specs.Layers.{count_in_range, form_refusal, FormedLast, has_price, laid_over, layer_quote, members_of}
+use Rattle.measures.specs.declared.fault.Cause.TheVariants.{MalformedCode, GroupOutOfRange, MemberWithoutPrice, SourceFull}
+use Rattle.prices.specs.Layers.{form_refusal, form_refusals, FormedLast, has_price, laid_over, layer_quote, members_of}
 use Rattle.prices.specs.Means.{all_priced, group_components, group_price}
-use Rattle.prices.specs.Members.{first_failing, weight_in_range, weights_in_range}
+use Rattle.prices.specs.Members.{count_in_range, first_failing, members_refusal, members_refusals, weight_in_range, weights_in_range}
 use Rattle.prices.specs.Quotes.{AddsPrice, HasPrice, Quote}
 use Rattle.prices.specs.Refusals.{where_at}
 use Rattle.prices.specs.Priced.{price_of}
@@ -16,42 +18,48 @@ use Rattle.prices.specs.declared.member.Member.{Member}
 use Rattle.prices.specs.declared.price.Market.{Market}
 use Rattle.prices.specs.declared.price.Market.TheVariants.{DayAhead, RealTime}
 use Rattle.prices.specs.declared.price.Price.{Price}
-use Rattle.prices.proofs.Accepted.{unless_none}
+use Rattle.prices.proofs.Accepted.{none_of, unless_none}
 use Rattle.measures.proofs.Codes.{same_self}
-use Rattle.prices.proofs.Failing.{none_lacks, none_out}
+use Rattle.prices.proofs.Failing.{none_fails}
 use Rattle.prices.specs.Guarded.{some_value}
 use Rattle.prices.specs.Layered.{components_some, laid_push, priced_both}
 use Rattle.prices.specs.Prices.{price_has}
 
-where_none : (o : Option ℕ) (c : Cause) (next : Option Fault) → where_at o c next ≡ None → (o ≡ None) × (next ≡ None)
-where_none (Some k) c next h = let z : ◌≡◌ {A = ℕ} 0 1 = cc in absurd (omega arith)
-where_none None c next h = (refl, h)
+-- a refusal at the first member that fails a test does not apply where all pass it
+where_none : (test : Member → Bool) (xs : List Member) (c : Cause) → where_at (first_failing test xs) c ≡ None → list_all test xs ≡ true
+where_none test xs c h = none_fails test xs (there (position (λ x. not (test x)) xs) h)
+  where
+    there : (o : Option ℕ) → where_at (option_map (λ i. i + 1) o) c ≡ None → o ≡ None
+    there (Some i) k = cc
+    there None k = refl
+
+-- what accepted members have
+pub record AcceptedMembers (xs : List Member) : Type 0 where
+  pub some : 1 ≤ length xs
+  pub few : length xs ≤ 8
+  pub weighed : weights_in_range xs ≡ true
+
+pub accepted_members : (xs : List Member) → members_refusal xs ≡ None → AcceptedMembers xs
+accepted_members xs h =
+    let n = none_of (members_refusals xs) h in
+    let count = and_parts (leb 1 (length xs)) (leb (length xs) 8) (unless_none (count_in_range (length xs)) GroupOutOfRange n.0) in
+    record { some = leb-true 1 (length xs) count.0; few = leb-true (length xs) 8 count.1; weighed = where_none weight_in_range xs GroupOutOfRange n.1.0 }
 
 -- what an accepted group has
 pub record AcceptedGroup (q : Quote) (gs : List Group) (c : LocationCode) (xs : List Member) : Type 0 where
   pub formed : well_formed c ≡ true
-  pub some : 1 ≤ length xs
-  pub few : length xs ≤ 8
-  pub weighed : weights_in_range xs ≡ true
+  pub members : AcceptedMembers xs
   pub priced_there : all_priced q DayAhead xs ≡ true
   pub room : length gs < 8
 
 pub accepted_group : (q : Quote) (gs : List Group) (c : LocationCode) (xs : List Member) → form_refusal q gs c xs ≡ None → AcceptedGroup q gs c xs
 accepted_group q gs c xs h =
-    let a = unless_none (well_formed c) _ _ h in
-    let b = unless_none (not (is_some (layer_quote q gs c DayAhead))) _ _ a.1 in
-    let n = unless_none (count_in_range (length xs)) _ _ b.1 in
-    let w = where_none (first_failing weight_in_range 1 xs) _ _ n.1 in
-    let p = where_none (first_failing (has_price q) 1 xs) _ _ w.1 in
-    let r = unless_none (ltb (length gs) 8) _ _ p.1 in
-    let count = and_parts (leb 1 (length xs)) (leb (length xs) 8) n.0 in
+    let n = none_of (form_refusals q gs c xs) h in
     record {
-      formed = a.0;
-      some = leb-true 1 (length xs) count.0;
-      few = leb-true (length xs) 8 count.1;
-      weighed = none_out 1 xs w.0;
-      priced_there = none_lacks q 1 xs p.0;
-      room = ltb-true (length gs) 8 r.0;
+      formed = unless_none (well_formed c) MalformedCode n.0;
+      members = accepted_members xs n.1.1.0;
+      priced_there = where_none (has_price q) xs MemberWithoutPrice n.1.1.1.0;
+      room = ltb-true (length gs) 8 (unless_none (ltb (length gs) 8) SourceFull n.1.1.1.1.0);
     }
 
 -- the members have prices in each market
@@ -75,7 +83,7 @@ group_adds q both gs hs c xs h f = record { its_price = its; the_others = others
 
     its : (m : Market) → HasPrice (layer_quote q hs) c m (group_components q xs m)
     its m =
-        let v = some_value (price_of (group_components q xs m)) (components_some q m xs a.some a.weighed) in
+        let v = some_value (price_of (group_components q xs m)) (components_some q m xs a.members.some a.members.weighed) in
         record {
           price = v.0;
           said = cond-true _ _ _ a.formed ∙ (laid c m ∙ (cond-true _ _ _ (same_self c) ∙ (cond-true _ _ _ (all_there q both xs m a.priced_there) ∙ v.1)));

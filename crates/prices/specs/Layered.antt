@@ -70,7 +70,7 @@ priced_both q both (x ∷ xs) = ap₂ ◌&&◌ (both x.code) (priced_both q both
 
 group_both : (q : Quote) → ((c : LocationCode) → is_some (q c DayAhead) ≡ is_some (q c RealTime)) → (g : Group) → is_some (group_price q DayAhead (members_of g)) ≡ is_some (group_price q RealTime (members_of g))
 group_both q both g =
-    group_some q DayAhead (members_of g) g.some g.weighed ∙ (priced_both q both (members_of g) ∙ sym (group_some q RealTime (members_of g) g.some g.weighed))
+    group_some q DayAhead (members_of g) g.members.some g.members.weighed ∙ (priced_both q both (members_of g) ∙ sym (group_some q RealTime (members_of g) g.members.some g.members.weighed))
 
 -- a code has a price over the groups in both markets or in neither
 pub laid_both : (q : Quote) → ((c : LocationCode) → is_some (q c DayAhead) ≡ is_some (q c RealTime)) → (c : LocationCode) (o u : Option Price) (gs : List Group) → is_some o ≡ is_some u → is_some (laid_over q c DayAhead o gs) ≡ is_some (laid_over q c RealTime u gs)
@@ -102,5 +102,5 @@ laid_below q c m p said [] k e = k e
 laid_below q c m p said (g ∷ gs) k e = laid_below q c m p (says q c m said g) gs (next (same_code g.code c)) e
   where
     next : (b : Bool) → cond b (group_price q m (members_of g)) said ≡ Some p → FromBelow q m p
-    next true f = group_below q m (members_of g) p g.some f
+    next true f = group_below q m (members_of g) p g.members.some f
     next false f = k f

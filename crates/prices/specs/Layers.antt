@@ -1,27 +1,27 @@
 -- A layer of groups over a source: what it says, and which group may be formed.
-use Rattle.std.specs.Prelude.{◌≡◌, ℕ, Bool, cond, not, ◌&&◌, List, [], ◌∷◌, ◌++◌, length, take, is_some, None, vec_items, Option, nat_le, nat_lt}
+use Rattle.std.specs.Prelude.{◌≡◌, Bool, cond, not, List, [], ◌∷◌, ◌++◌, length, is_some, None, vec_items, Option, nat_lt}
 use Rattle.measures.specs.Codes.{well_formed, same_code}
 use Rattle.measures.specs.declared.code.LocationCode.{LocationCode}
-use Rattle.measures.specs.declared.fault.Cause.TheVariants.{MalformedCode, PricedAlready, GroupOutOfRange, MemberWithoutPrice, SourceFull}
+use Rattle.measures.specs.declared.fault.Cause.TheVariants.{MalformedCode, PricedAlready, MemberWithoutPrice, SourceFull}
 use Rattle.measures.specs.declared.fault.Fault.{Fault}
 use Rattle.prices.specs.Means.{group_price}
-use Rattle.prices.specs.Members.{first_failing, weight_in_range}
+use Rattle.prices.specs.Members.{first_failing, members_refusal}
 use Rattle.prices.specs.Quotes.{Quote}
-use Rattle.prices.specs.Refusals.{unless, where_at}
+use Rattle.prices.specs.Refusals.{first_of, unless, where_at}
 use Rattle.prices.specs.declared.group.Group.{Group}
-use Rattle.prices.specs.declared.groups.GroupTable.{GroupTable}
 use Rattle.prices.specs.declared.member.Member.{Member}
 use Rattle.prices.specs.declared.price.Market.{Market}
 use Rattle.prices.specs.declared.price.Market.TheVariants.{DayAhead}
 use Rattle.prices.specs.declared.price.Price.{Price}
+use Rattle.prices.specs.declared.reserved.Reserved.{Reserved}
 
 -- a group's members, in their order
 abbrev pub members_of : Group → List Member
-members_of g = take g.count g.members
+members_of g = g.members.list.items
 
 -- the groups of a table, in the order in which they were formed
-abbrev pub groups_of : GroupTable → List Group
-groups_of t = vec_items t.groups
+abbrev pub groups_of : Reserved Group 8 → List Group
+groups_of t = vec_items t.items
 
 -- each group in turn says the price of its own code, over what was said before
 abbrev pub laid_over : Quote → LocationCode → Market → Option Price → List Group → Option Price
@@ -36,20 +36,19 @@ layer_quote below gs c m = cond (well_formed c) (laid_over below c m (below c m)
 abbrev pub has_price : Quote → Member → Bool
 has_price below x = is_some (below x.code DayAhead)
 
--- one to eight members
-abbrev pub count_in_range : ℕ → Bool
-count_in_range n = nat_le 1 n && nat_le n 8
-
--- why a group may not be formed, the first cause that applies; members count from place 1
-abbrev pub form_refusal : Quote → List Group → LocationCode → List Member → Option Fault
-form_refusal below gs c xs =
+-- what may refuse a group, in this order; members count from place 1
+abbrev pub form_refusals : Quote → List Group → LocationCode → List Member → List (Option Fault)
+form_refusals below gs c xs =
     unless (well_formed c) MalformedCode
-    (unless (not (is_some (layer_quote below gs c DayAhead))) PricedAlready
-    (unless (count_in_range (length xs)) GroupOutOfRange
-    (where_at (first_failing weight_in_range 1 xs) GroupOutOfRange
-    (where_at (first_failing (has_price below) 1 xs) MemberWithoutPrice
-    (unless (nat_lt (length gs) 8) SourceFull
-    None)))))
+    ∷ unless (not (is_some (layer_quote below gs c DayAhead))) PricedAlready
+    ∷ members_refusal xs
+    ∷ where_at (first_failing (has_price below) xs) MemberWithoutPrice
+    ∷ unless (nat_lt (length gs) 8) SourceFull
+    ∷ []
+
+-- why a group may not be formed, the first cause that applies
+abbrev pub form_refusal : Quote → List Group → LocationCode → List Member → Option Fault
+form_refusal below gs c xs = first_of (form_refusals below gs c xs)
 
 -- the groups after are those before and one with this code and these members last
 pub record FormedLast (before after : List Group) (c : LocationCode) (xs : List Member) : Type 0 where

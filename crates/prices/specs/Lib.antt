@@ -8,6 +8,7 @@ pub mod Refusals
 pub mod Rows
 pub mod Singles
 pub mod Tables
+pub mod Totals
 pub mod Guarded
 pub mod Layered
 pub mod Prices

@@ -1,5 +1,6 @@
 -- The price of a group: the energy component of its members, and the weighted means of their other two.
-use Rattle.std.specs.Prelude.{ℕ, ◌+◌, ◌*◌, ◌/◌, Bool, true, cond, ◌&&◌, List, [], ◌∷◌, ℤ, pos, ◌+ℤ◌, ◌*ℤ◌, is_some, Some, None, Option, unsigned_abs}
+use Rattle.std.specs.Prelude.{ℕ, ◌+◌, ◌*◌, ◌/◌, Bool, cond, List, [], ◌∷◌, ℤ, pos, ◌+ℤ◌, ◌*ℤ◌, is_some, Some, None, Option, unsigned_abs}
+use Rattle.std.specs.List.{list_all}
 use Rattle.measures.specs.Signs.{signed}
 use Rattle.prices.specs.Members.{total_weight}
 use Rattle.prices.specs.Quotes.{Quote}
@@ -32,8 +33,7 @@ component part None = pos 0
 
 -- each member has a price in the market
 abbrev pub all_priced : Quote → Market → List Member → Bool
-all_priced below m [] = true
-all_priced below m (x ∷ xs) = is_some (below x.code m) && all_priced below m xs
+all_priced below m = list_all (λ x. is_some (below x.code m))
 
 -- the sum of weight × component over the members
 abbrev pub weighted_sum : (Price → ℤ) → Quote → Market → List Member → ℤ

@@ -1,5 +1,6 @@
--- Faults of the price layer, and chains of refusals in order.
-use Rattle.std.specs.Prelude.{ℕ, Bool, cond, Some, None, Option}
+-- Faults of the price layer, and refusals in order.
+use Rattle.std.specs.Prelude.{ℕ, Bool, cond, List, [], ◌∷◌, Some, None, Option, option_map}
+use Rattle.std.specs.Option.{option_or}
 use Rattle.measures.specs.Faults.{fault}
 use Rattle.measures.specs.declared.fault.Cause.{Cause}
 use Rattle.measures.specs.declared.fault.Fault.{Fault}
@@ -9,11 +10,15 @@ use Rattle.measures.specs.declared.fault.Layer.TheVariants.{Price}
 abbrev pub price_fault : Cause → Option ℕ → Fault
 price_fault c place = fault c Price place
 
--- refused for this cause unless the test passes; then the next test decides
-abbrev pub unless : Bool → Cause → Option Fault → Option Fault
-unless test c next = cond test next (Some (price_fault c None))
+-- refused for this cause unless the test passes
+abbrev pub unless : Bool → Cause → Option Fault
+unless test c = cond test None (Some (price_fault c None))
 
--- refused for this cause at the place, where there is one; else the next test decides
-abbrev pub where_at : Option ℕ → Cause → Option Fault → Option Fault
-where_at (Some k) c next = Some (price_fault c (Some k))
-where_at None c next = next
+-- refused for this cause at the place, where there is one
+abbrev pub where_at : Option ℕ → Cause → Option Fault
+where_at place c = option_map (λ k. price_fault c (Some k)) place
+
+-- the first refusal that applies
+abbrev pub first_of : List (Option Fault) → Option Fault
+first_of [] = None
+first_of (o ∷ os) = option_or o (first_of os)

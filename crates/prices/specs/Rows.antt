@@ -10,7 +10,7 @@ use Rattle.measures.specs.declared.fault.Fault.{Fault}
 use Rattle.prices.specs.Priced.{price_of}
 use Rattle.prices.specs.Quotes.{Quote}
 use Rattle.prices.specs.Range.{components_in_range}
-use Rattle.prices.specs.Refusals.{unless}
+use Rattle.prices.specs.Refusals.{first_of, unless}
 use Rattle.prices.specs.declared.price.Market.{Market}
 use Rattle.prices.specs.declared.price.Market.TheVariants.{DayAhead, RealTime}
 use Rattle.prices.specs.declared.row.Components.{Components}
@@ -50,15 +50,19 @@ abbrev pub fits_energy : List PriceRow → PriceRow → Bool
 fits_energy [] r = true
 fits_energy (f ∷ rs) r = same_energy f r
 
+-- what may refuse a row, in this order
+abbrev pub row_refusals : List PriceRow → PriceRow → List (Option Fault)
+row_refusals rs r =
+    unless (well_formed r.code) MalformedCode
+    ∷ unless (row_in_range r) ComponentOutOfRange
+    ∷ unless (fits_energy rs r) OtherEnergyComponent
+    ∷ unless (not (held rs r.code)) PricedAlready
+    ∷ unless (nat_lt (length rs) 64) SourceFull
+    ∷ []
+
 -- why a row may not be added, the first cause that applies
 abbrev pub row_refusal : List PriceRow → PriceRow → Option Fault
-row_refusal rs r =
-    unless (well_formed r.code) MalformedCode
-    (unless (row_in_range r) ComponentOutOfRange
-    (unless (fits_energy rs r) OtherEnergyComponent
-    (unless (not (held rs r.code)) PricedAlready
-    (unless (nat_lt (length rs) 64) SourceFull
-    None))))
+row_refusal rs r = first_of (row_refusals rs r)
 
 -- each row has the first one's energy components
 abbrev pub has_one_energy : List PriceRow → Bool

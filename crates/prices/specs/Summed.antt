@@ -43,6 +43,15 @@ weight_bounds x h = at x.weight h
     at (pos n) k = let p = and_parts (nat_le 1 n) (nat_le n 1000) k in (leb-true 1 n p.0, leb-true n 1000 p.1)
     at (negsuc n) k = let z : ◌≡◌ {A = ℕ} 0 1 = cc in absurd (omega arith)
 
+-- the sum of weights is at most 1,000 for each member
+pub total_few : (xs : List Member) → weights_in_range xs ≡ true → total_weight xs ≤ 1000 * length xs
+total_few [] k = omega arith
+total_few (x ∷ xs) k =
+    let p = and_parts (weight_in_range x) (weights_in_range xs) k in
+    let here = (weight_bounds x p.0).1 in
+    let rest = total_few xs p.1 in
+    omega arith
+
 -- the sum of weights is positive
 pub total_positive : (xs : List Member) → 1 ≤ length xs → weights_in_range xs ≡ true → 0 < total_weight xs
 total_positive [] h k = absurd (omega arith)

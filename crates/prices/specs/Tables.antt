@@ -7,7 +7,7 @@ use Rattle.prices.specs.declared.table.PriceTable.{PriceTable}
 
 -- a table's rows, in the order in which they were added
 abbrev pub rows_of : PriceTable → List PriceRow
-rows_of t = vec_items t.rows
+rows_of t = vec_items t.rows.items
 
 -- what a table says
 abbrev pub table_quote : PriceTable → Quote

@@ -1,10 +1,10 @@
 // A layer of groups over any source.
-ghost use Rattle.std.specs.Prelude.{◌≡◌, ◌≤◌, true, [], length, Some, None, Ok, Err, refl};
+ghost use Rattle.std.specs.Prelude.{◌≡◌, true, false, [], Some, None, Ok, Err, not, position, refl};
 ghost use Rattle.std.proofs.Common.{sym, ◌∙◌, rules};
 ghost use Rattle.measures.specs.declared.code.LocationCode.{LocationCode};
 ghost use Rattle.prices.specs.Layers.{form_refusal, FormedLast, groups_of, has_price, laid_over, layer_quote};
-ghost use Rattle.prices.specs.Means.{group_components, group_price};
-ghost use Rattle.prices.specs.Members.{first_failing, weight_in_range, weights_in_range};
+ghost use Rattle.prices.specs.Means.{all_priced, group_components, group_price};
+ghost use Rattle.prices.specs.Totals.{AreSums};
 ghost use Rattle.prices.specs.Quotes.{AddsPrice};
 ghost use Rattle.prices.specs.declared.price.Market.{Market};
 ghost use Rattle.measures.specs.Codes.{well_formed};
@@ -13,12 +13,12 @@ ghost use Rattle.prices.specs.Layered.{laid_both, laid_below};
 
 use crate::faults::price_fault;
 use crate::group::Group;
-use crate::groups::{GroupTable, MOST_GROUPS};
-use crate::member::{MOST_MEMBERS, Member};
+use crate::groups::GroupTable;
+use crate::member::{Member, Members};
 use crate::price::{Market, Price};
 use crate::row::Components;
 use crate::source::PriceSource;
-use crate::sums::{Sums, mean_nearest};
+use crate::sums::Sums;
 use measures::code::LocationCode;
 use measures::fault::{Cause, Fault};
 
@@ -31,27 +31,31 @@ pub struct GroupLayer<S> {
     groups: GroupTable,
 }
 
-// The price of a group with these members, or none where one has no price below.
-fn mean_price<S: PriceSource>(below: &S, members: &[Member], market: Market) -> Option<Price>
-    requires some { 1 ≤ length members.now }
-    requires few { length members.now ≤ 8 }
-    requires weighed { weights_in_range members.now ≡ true }
-    ensures { result ≡ group_price (S.quote below.now) market members.now }
+// The sums over all members, or none where one has no price below.
+fn sums_over<S: PriceSource>(below: &S, members: &Members, market: Market) -> Option<Sums>
+    ensures { elim result [
+      | Some sums ↦ (all_priced (S.quote below.now) market members.now.list.items ≡ true) × AreSums (S.quote below.now) market members.now.list.items sums
+      | None ↦ all_priced (S.quote below.now) market members.now.list.items ≡ false
+    ] }
 {
-    let first = below.price(&members[0].code, market)?;
-    let mut sums = Sums {
-        weight: 0,
-        congestion: 0,
-        loss: 0,
-    };
-    for member in members {
+    let mut sums = Sums::new();
+    for member in members.as_slice() {
         let price = below.price(&member.code, market)?;
-        sums = sums.with(&price, member.weight);
+        sums = sums.with(member, &price);
     }
+    Some(sums)
+}
+
+// The price of a group with these members, or none where one has no price below.
+fn mean_price<S: PriceSource>(below: &S, members: &Members, market: Market) -> Option<Price>
+    ensures { result ≡ group_price (S.quote below.now) market members.now.list.items }
+{
+    let sums = sums_over(below, members, market)?;
+    let first = below.price(&members.as_slice()[0].code, market)?;
     Price::new(Components {
         energy: first.energy(),
-        congestion: mean_nearest(sums.congestion, sums.weight),
-        loss: mean_nearest(sums.loss, sums.weight),
+        congestion: sums.congestion_mean(),
+        loss: sums.loss_mean(),
     })
 }
 
@@ -67,7 +71,7 @@ fn look_up<S: PriceSource>(
     let mut said = below.price(code, market);
     for group in groups {
         if group.code == *code {
-            said = mean_price(below, group.members(), market);
+            said = mean_price(below, &group.members, market);
         }
     }
     said
@@ -82,66 +86,45 @@ fn quote_over<S: PriceSource>(
 ) -> Option<Price>
     ensures { result ≡ layer_quote (S.quote below.now) groups.now code.now market }
 {
-    if code.is_well_formed() {
-        look_up(below, groups, code, market)
-    } else {
-        None
+    if !code.is_well_formed() {
+        return None;
     }
+    look_up(below, groups, code, market)
 }
 
-// The first member, from 1, whose weight is outside 1 to 1,000.
-fn first_out_of_range(members: &[Member]) -> Option<usize>
-    ensures { result ≡ first_failing weight_in_range 1 members.now }
-{
-    for (i, member) in members.iter().enumerate() {
-        if !member.is_in_range() {
-            return Some(i + 1);
-        }
-    }
-    None
-}
-
-// The first member, from 1, with no price below.
+// The index of the first member with no price below.
 fn first_without_price<S: PriceSource>(below: &S, members: &[Member]) -> Option<usize>
-    ensures { result ≡ first_failing (has_price (S.quote below.now)) 1 members.now }
+    ensures { result ≡ position (λ x. not (has_price (S.quote below.now) x)) members.now }
 {
-    for (i, member) in members.iter().enumerate() {
-        if below.price(&member.code, Market::DayAhead).is_none() {
-            return Some(i + 1);
-        }
-    }
-    None
+    members.iter().position(|member| below.price(&member.code, Market::DayAhead).is_none())
 }
 
-// Why a group may not be formed, the first cause that applies.
-fn refusal<S: PriceSource>(
+// The members of a group that may be formed; refused for the first cause that applies.
+fn accept<S: PriceSource>(
     below: &S,
-    groups: &[Group],
+    groups: &GroupTable,
     code: &LocationCode,
     members: &[Member],
-) -> Option<Fault>
-    ensures { result ≡ form_refusal (S.quote below.now) groups.now code.now members.now }
+) -> Result<Members, Fault>
+    ensures { elim result [
+      | Ok accepted ↦ (form_refusal (S.quote below.now) (groups_of groups.now) code.now members.now ≡ None) × (accepted.list.items ≡ members.now)
+      | Err f ↦ form_refusal (S.quote below.now) (groups_of groups.now) code.now members.now ≡ Some f
+    ] }
 {
     if !code.is_well_formed() {
-        return Some(price_fault(Cause::MalformedCode, None));
+        return Err(price_fault(Cause::MalformedCode, None));
     }
-    if quote_over(below, groups, code, Market::DayAhead).is_some() {
-        return Some(price_fault(Cause::PricedAlready, None));
+    if quote_over(below, groups.as_slice(), code, Market::DayAhead).is_some() {
+        return Err(price_fault(Cause::PricedAlready, None));
     }
-    if !(1 <= members.len() && members.len() <= MOST_MEMBERS) {
-        return Some(price_fault(Cause::GroupOutOfRange, None));
+    let accepted = Members::new(members)?;
+    if let Some(i) = first_without_price(below, members) {
+        return Err(price_fault(Cause::MemberWithoutPrice, Some(i + 1)));
     }
-    if let Some(place) = first_out_of_range(members) {
-        return Some(price_fault(Cause::GroupOutOfRange, Some(place)));
+    if !groups.has_room() {
+        return Err(price_fault(Cause::SourceFull, None));
     }
-    if let Some(place) = first_without_price(below, members) {
-        return Some(price_fault(Cause::MemberWithoutPrice, Some(place)));
-    }
-    if groups.len() < MOST_GROUPS {
-        None
-    } else {
-        Some(price_fault(Cause::SourceFull, None))
-    }
+    Ok(accepted)
 }
 
 impl<S: PriceSource> GroupLayer<S> {
@@ -166,10 +149,8 @@ impl<S: PriceSource> GroupLayer<S> {
           | Err f ↦ (form_refusal (S.quote self.old.below) (groups_of self.old.groups) code members.now ≡ Some f) × (self.new ≡ self.old)
         ] }
     {
-        if let Some(why) = refusal(&self.below, self.groups.as_slice(), &code, members) {
-            return Err(why);
-        }
-        self.groups.push(Group::new(code, members));
+        let members = accept(&self.below, &self.groups, &code, members)?;
+        self.groups.push(Group { code, members });
         Ok(())
     }
 }

@@ -7,6 +7,7 @@ pub mod groups;
 pub mod layer;
 pub mod member;
 pub mod price;
+mod reserved;
 pub mod row;
 mod rows;
 pub mod single;

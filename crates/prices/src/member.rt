@@ -1,17 +1,31 @@
 // Members of a group of locations.
-ghost use Rattle.std.specs.Prelude.{◌≡◌};
+ghost use Rattle.std.specs.Prelude.{◌≡◌, ◌≤◌, true, length, not, position};
+ghost use Rattle.std.specs.List.{list_all};
 ghost use Rattle.prices.specs.Members.{weight_in_range};
 
+use crate::faults::price_fault;
+use arrayvec::ArrayVec;
 use measures::code::LocationCode;
+use measures::fault::{Cause, Fault};
 
 // A group has at most eight members.
-pub(crate) const MOST_MEMBERS: usize = 8;
+const MOST_MEMBERS: usize = 8;
 
 // A location in a group, with its weight.
-#[derive(Clone, Copy)]
+#[derive(Clone, Copy, PartialEq, Eq, Debug)]
 pub struct Member {
     pub code: LocationCode,
     pub weight: i64,
+}
+
+// What stands in a place that no member has taken.
+impl Default for Member {
+    fn default() -> Member {
+        Member {
+            code: LocationCode { bytes: [b' '; 8] },
+            weight: 0,
+        }
+    }
 }
 
 impl Member {
@@ -20,5 +34,53 @@ impl Member {
         ensures { result ≡ weight_in_range self.now }
     {
         1 <= self.weight && self.weight <= 1_000
+    }
+}
+
+// One to eight members, each with a weight in range. They stand in the value itself, so that forming a group never wants
+// memory.
+#[derive(Drop)]
+pub struct Members {
+    list: ArrayVec<Member, MOST_MEMBERS>,
+    ghost some: { 1 ≤ length list.items },
+    ghost few: { length list.items ≤ 8 },
+    ghost weighed: { list_all weight_in_range list.items ≡ true },
+}
+
+// The index of the first member whose weight is out of range.
+fn first_out_of_range(members: &[Member]) -> Option<usize>
+    ensures { result ≡ position (λ x. not (weight_in_range x)) members.now }
+{
+    members.iter().position(|member| !member.is_in_range())
+}
+
+impl Members {
+    ghost use Rattle.std.specs.Prelude.{◌≡◌, Some, None, Ok, Err};
+    ghost use Rattle.prices.specs.Members.{members_refusal};
+
+    // These members; refused where there are none or more than eight, or at the first whose weight is out of range.
+    pub(crate) fn new(members: &[Member]) -> Result<Members, Fault>
+        ensures { elim result [
+          | Ok accepted ↦ (members_refusal members.now ≡ None) × (accepted.list.items ≡ members.now)
+          | Err f ↦ members_refusal members.now ≡ Some f
+        ] }
+    {
+        let list = ArrayVec::try_from(members).map_err(|_| price_fault(
+            Cause::GroupOutOfRange,
+            None,
+        ))?;
+        if list.is_empty() {
+            return Err(price_fault(Cause::GroupOutOfRange, None));
+        }
+        if let Some(i) = first_out_of_range(members) {
+            return Err(price_fault(Cause::GroupOutOfRange, Some(i + 1)));
+        }
+        Ok(Members { list })
+    }
+
+    pub(crate) fn as_slice(&self) -> &[Member]
+        ensures { result.now ≡ self.now.list.items }
+    {
+        self.list.as_slice()
     }
 }

@@ -1,16 +1,15 @@
 // What a list of price rows says of a code, and which row may be added to it.
-ghost use Rattle.std.specs.Prelude.{◌≡◌, Some, None, Ok, Err, option_copied};
+ghost use Rattle.std.specs.Prelude.{◌≡◌, Some, None, Ok, Err, option_copied, vec_items};
 ghost use Rattle.prices.specs.Priced.{price_of};
 ghost use Rattle.prices.specs.Rows.{components_in, held as holds_code, row_with, rows_quote, row_refusal, fits_energy};
 
 use crate::faults::price_fault;
 use crate::price::{Market, Price};
+use crate::reserved::Reserved;
 use crate::row::PriceRow;
+use crate::table::MOST_ROWS;
 use measures::code::LocationCode;
 use measures::fault::{Cause, Fault};
-
-// A table holds at most 64 rows.
-pub(crate) const MOST_ROWS: usize = 64;
 
 // A row's price in a market.
 fn price_in(row: &PriceRow, market: Market) -> Option<Price>
@@ -60,9 +59,11 @@ fn has_their_energy(rows: &[PriceRow], row: &PriceRow) -> bool
 }
 
 // Refuses a row that may not be added, for the first cause that applies.
-pub(crate) fn check(rows: &[PriceRow], row: &PriceRow) -> Result<(), Fault>
-    ensures { elim result [ Ok _ ↦ row_refusal rows.now row.now ≡ None | Err f ↦ row_refusal rows.now row.now ≡ Some f ] }
+pub(crate) fn check(rows: &Reserved<PriceRow, MOST_ROWS>, row: &PriceRow) -> Result<(), Fault>
+    ensures { elim result [ Ok _ ↦ row_refusal (vec_items rows.now.items) row.now ≡ None | Err f ↦ row_refusal (vec_items rows.now.items) row.now ≡ Some f ] }
 {
+    let full = !rows.has_room();
+    let rows = rows.as_slice();
     if !row.code.is_well_formed() {
         return Err(price_fault(Cause::MalformedCode, None));
     }
@@ -75,7 +76,7 @@ pub(crate) fn check(rows: &[PriceRow], row: &PriceRow) -> Result<(), Fault>
     if holds(rows, &row.code) {
         return Err(price_fault(Cause::PricedAlready, None));
     }
-    if rows.len() >= MOST_ROWS {
+    if full {
         return Err(price_fault(Cause::SourceFull, None));
     }
     Ok(())

@@ -1,15 +1,20 @@
-// Sums over the members of a group, and the nearest mean.
-ghost use Rattle.std.specs.Prelude.{◌≡◌, ◌+◌, ◌*◌, ◌<◌, ◌≤◌, ◌+ℤ◌, ◌*ℤ◌, unsigned_abs};
+// Sums over the members of a group, and the nearest means.
+ghost use Rattle.std.specs.Prelude.{◌≡◌, ◌+◌, ◌*◌, ◌<◌, ◌≤◌, ◌+ℤ◌, ◌*ℤ◌, true, pos, unsigned_abs};
 ghost use Rattle.prices.specs.Means.{nearest_mean};
+ghost use Rattle.prices.specs.Members.{weight_in_range};
 
+use crate::member::Member;
 use crate::price::Price;
 
-// The sum of the weights, and the sums of weight × component.
+// The sum of the weights, and the sums of weight × component, whose size the weights bound.
 #[derive(Clone, Copy)]
 pub struct Sums {
-    pub weight: u64,
-    pub congestion: i64,
-    pub loss: i64,
+    weight: u64,
+    congestion: i64,
+    loss: i64,
+    ghost few: { weight ≤ 8000 },
+    ghost congestion_bound: { unsigned_abs congestion ≤ 100000 * weight },
+    ghost loss_bound: { unsigned_abs loss ≤ 100000 * weight },
 }
 
 // A sum with one weighted component more.
@@ -17,14 +22,13 @@ fn with_component(sum: i64, component: i64, weight: i64) -> i64
     requires component { unsigned_abs component ≤ 100000 }
     requires weight { unsigned_abs weight ≤ 1000 }
     requires sum { unsigned_abs sum ≤ 800000000 }
-    ensures value { result ≡ sum +ℤ (component *ℤ weight) }
-    ensures bound { unsigned_abs result ≤ unsigned_abs sum + 100000000 }
+    ensures { result ≡ sum +ℤ (component *ℤ weight) }
 {
     sum + component * weight
 }
 
 // x / weight to the nearest whole number, halves away from zero.
-pub(crate) fn mean_nearest(x: i64, weight: u64) -> i64
+fn nearest(x: i64, weight: u64) -> i64
     requires some { 0 < weight }
     requires few { weight ≤ 8000 }
     requires sum { unsigned_abs x ≤ 800000000 }
@@ -35,22 +39,47 @@ pub(crate) fn mean_nearest(x: i64, weight: u64) -> i64
 }
 
 impl Sums {
-    // The sums with one member more, of this price and weight.
-    pub(crate) fn with(&self, price: &Price, weight: i64) -> Sums
-        requires weight { unsigned_abs weight ≤ 1000 }
-        requires few { self.now.weight ≤ 8000 }
-        requires congestion { unsigned_abs self.now.congestion ≤ 800000000 }
-        requires loss { unsigned_abs self.now.loss ≤ 800000000 }
-        ensures weights { result.weight ≡ self.now.weight + unsigned_abs weight }
-        ensures congestions { result.congestion ≡ self.now.congestion +ℤ (price.now.components.congestion *ℤ weight) }
-        ensures losses { result.loss ≡ self.now.loss +ℤ (price.now.components.loss *ℤ weight) }
-        ensures congestion_bound { unsigned_abs result.congestion ≤ unsigned_abs self.now.congestion + 100000000 }
-        ensures loss_bound { unsigned_abs result.loss ≤ unsigned_abs self.now.loss + 100000000 }
+    // The sums over no members.
+    pub(crate) fn new() -> Sums
+        ensures weight { result.weight ≡ 0 }
+        ensures congestion { result.congestion ≡ pos 0 }
+        ensures loss { result.loss ≡ pos 0 }
     {
         Sums {
-            weight: self.weight + weight.unsigned_abs(),
-            congestion: with_component(self.congestion, price.congestion(), weight),
-            loss: with_component(self.loss, price.loss(), weight),
+            weight: 0,
+            congestion: 0,
+            loss: 0,
         }
+    }
+
+    // The sums with one member more, which has this price.
+    pub(crate) fn with(&self, member: &Member, price: &Price) -> Sums
+        requires in_range { weight_in_range member.now ≡ true }
+        requires few { self.now.weight + unsigned_abs member.now.weight ≤ 8000 }
+        ensures weight { result.weight ≡ self.now.weight + unsigned_abs member.now.weight }
+        ensures congestion { result.congestion ≡ self.now.congestion +ℤ (price.now.components.congestion *ℤ member.now.weight) }
+        ensures loss { result.loss ≡ self.now.loss +ℤ (price.now.components.loss *ℤ member.now.weight) }
+    {
+        Sums {
+            weight: self.weight + member.weight.unsigned_abs(),
+            congestion: with_component(self.congestion, price.congestion(), member.weight),
+            loss: with_component(self.loss, price.loss(), member.weight),
+        }
+    }
+
+    // The weighted mean of the congestion components.
+    pub(crate) fn congestion_mean(&self) -> i64
+        requires { 0 < self.now.weight }
+        ensures { result ≡ nearest_mean self.now.congestion self.now.weight }
+    {
+        nearest(self.congestion, self.weight)
+    }
+
+    // The weighted mean of the loss components.
+    pub(crate) fn loss_mean(&self) -> i64
+        requires { 0 < self.now.weight }
+        ensures { result ≡ nearest_mean self.now.loss self.now.weight }
+    {
+        nearest(self.loss, self.weight)
     }
 }

@@ -1,27 +1,11 @@
-use Rattle.std.proofs.Common.{◌≡◌, ◌+◌, ◌≤◌, List, length, drop, Option, sym, ap, ◌∙◌, arith, length-take}
+use Rattle.std.proofs.Common.{◌≡◌, ◌+◌, List, drop, Option, sym, ap, ◌∙◌}
 use Rattle.std.proofs.lemmas.Bool.{cond-false, cond-true}
-use Rattle.prices.specs.Layers.{laid_over, members_of}
-use Rattle.prices.specs.Means.{group_price}
-use Rattle.prices.specs.Members.{weights_in_range}
+use Rattle.prices.specs.Layers.{laid_over}
 use Rattle.prices.specs.declared.group.Group.{Group}
 use Rattle.prices.specs.declared.price.Price.{Price}
 use Rattle.prices.specs.Layered.{laid_end, laid_more, says}
 use Rattle.prices.proofs.layer.look_up.Goals as goal
 use Rattle.prices.proofs.layer.look_up.Goals.{then-eq, else-eq}
-
-at_most_eight : (g : Group) → length (members_of g) ≤ 8
-at_most_eight g = let e = length-take g.count g.members in let h = g.few in omega arith
-
-pub mean_price-said-requires : goal.mean_price-said-requires
-mean_price-said-requires g c =
-    let e = ap length c.members.ensures in
-    let some = c.group-item.result.some in
-    let few = at_most_eight c.group-item.result in
-    record {
-      some = omega arith;
-      few = omega arith;
-      weighed = ap weights_in_range c.members.ensures ∙ c.group-item.result.weighed;
-    }
 
 pub loop-group-preserved : goal.loop-group-preserved
 loop-group-preserved g c =
@@ -30,7 +14,7 @@ loop-group-preserved g c =
     let after = sym (laid_more q c.args.code.now c.args.market c.loop-group.said c.args.groups.now c.loop-group.group-index c.group-item.result c.loop-group-test.true c.group-item.is) ∙ c.loop-group.invariant in
     let said : c.if-eq.said ≡ says q c.args.code.now c.args.market c.loop-group.said c.group-item.result =
     elim c.if-eq.branch [
-      | then-eq w ↦ w.said-is ∙ (w.mean_price-said.ensures ∙ (ap (group_price q c.args.market) w.members.ensures ∙ sym (cond-true _ _ _ (sym w.if-eq.ensures))))
+      | then-eq w ↦ w.said-is ∙ (w.mean_price-said.ensures ∙ sym (cond-true _ _ _ (sym w.if-eq.ensures)))
       | else-eq w ↦ w.said-is ∙ sym (cond-false _ _ _ (sym w.if-eq.ensures))
     ] in
     ap (λ (o : Option Price). laid_over q c.args.code.now c.args.market o rest) said ∙ after
