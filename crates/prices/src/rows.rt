@@ -1,15 +1,11 @@
 // What a list of price rows says of a code, and which row may be added to it.
-ghost use Rattle.std.specs.Prelude.{◌≡◌, Some, None, Ok, Err, option_copied, vec_items};
+ghost use Rattle.std.specs.Prelude.{◌≡◌, Some, None, option_copied};
 ghost use Rattle.prices.specs.Priced.{price_of};
-ghost use Rattle.prices.specs.Rows.{components_in, held as holds_code, row_with, rows_quote, row_refusal, fits_energy};
+ghost use Rattle.prices.specs.Rows.{components_in, held as holds_code, row_with, rows_quote, fits_energy};
 
-use crate::faults::price_fault;
 use crate::price::{Market, Price};
-use crate::reserved::Reserved;
 use crate::row::PriceRow;
-use crate::table::MOST_ROWS;
 use measures::code::LocationCode;
-use measures::fault::{Cause, Fault};
 
 // A row's price in a market.
 fn price_in(row: &PriceRow, market: Market) -> Option<Price>
@@ -39,14 +35,15 @@ pub(crate) fn quote_in(rows: &[PriceRow], code: &LocationCode, market: Market) -
     price_in(row, market)
 }
 
-fn holds(rows: &[PriceRow], code: &LocationCode) -> bool
+// Whether some row has this code.
+pub(crate) fn holds(rows: &[PriceRow], code: &LocationCode) -> bool
     ensures { result ≡ holds_code rows.now code.now }
 {
     rows.iter().any(|row| row.code == *code)
 }
 
 // Whether a row has the energy components of the rows before it, which the first one fixes.
-fn has_their_energy(rows: &[PriceRow], row: &PriceRow) -> bool
+pub(crate) fn has_their_energy(rows: &[PriceRow], row: &PriceRow) -> bool
     ensures { result ≡ fits_energy rows.now row.now }
 {
     match rows {
@@ -56,28 +53,4 @@ fn has_their_energy(rows: &[PriceRow], row: &PriceRow) -> bool
                 && first.real_time.energy == row.real_time.energy
         }
     }
-}
-
-// Refuses a row that may not be added, for the first cause that applies.
-pub(crate) fn check(rows: &Reserved<PriceRow, MOST_ROWS>, row: &PriceRow) -> Result<(), Fault>
-    ensures { elim result [ Ok _ ↦ row_refusal (vec_items rows.now.items) row.now ≡ None | Err f ↦ row_refusal (vec_items rows.now.items) row.now ≡ Some f ] }
-{
-    let full = !rows.has_room();
-    let rows = rows.as_slice();
-    if !row.code.is_well_formed() {
-        return Err(price_fault(Cause::MalformedCode, None));
-    }
-    if !(row.day_ahead.are_in_range() && row.real_time.are_in_range()) {
-        return Err(price_fault(Cause::ComponentOutOfRange, None));
-    }
-    if !has_their_energy(rows, row) {
-        return Err(price_fault(Cause::OtherEnergyComponent, None));
-    }
-    if holds(rows, &row.code) {
-        return Err(price_fault(Cause::PricedAlready, None));
-    }
-    if full {
-        return Err(price_fault(Cause::SourceFull, None));
-    }
-    Ok(())
 }

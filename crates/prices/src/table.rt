@@ -6,14 +6,14 @@ ghost use Rattle.prices.specs.Rows.{has_one_energy, row_in_range};
 use crate::price::{Market, Price};
 use crate::reserved::Reserved;
 use crate::row::PriceRow;
-use crate::rows;
 use crate::source::PriceSource;
+use crate::{faults, rows};
 use measures::code::LocationCode;
-use measures::fault::Fault;
+use measures::fault::{Cause, Fault};
 use std::alloc::Global;
 
 // A table holds at most 64 rows.
-pub(crate) const MOST_ROWS: usize = 64;
+const MOST_ROWS: usize = 64;
 
 // Rows that are in range, and have the energy components of the first.
 #[derive(Drop)]
@@ -39,6 +39,29 @@ impl PriceTable {
         Ok(PriceTable { rows })
     }
 
+    // Refuses a row that may not be added, for the first cause that applies.
+    fn check(&self, row: &PriceRow) -> Result<(), Fault>
+        ensures { elim result [ Ok _ ↦ row_refusal (rows_of self.now) row.now ≡ None | Err f ↦ row_refusal (rows_of self.now) row.now ≡ Some f ] }
+    {
+        let rows = self.rows.as_slice();
+        if !row.code.is_well_formed() {
+            return Err(faults::price_fault(Cause::MalformedCode, None));
+        }
+        if !(row.day_ahead.are_in_range() && row.real_time.are_in_range()) {
+            return Err(faults::price_fault(Cause::ComponentOutOfRange, None));
+        }
+        if !rows::has_their_energy(rows, row) {
+            return Err(faults::price_fault(Cause::OtherEnergyComponent, None));
+        }
+        if rows::holds(rows, &row.code) {
+            return Err(faults::price_fault(Cause::PricedAlready, None));
+        }
+        if !self.rows.has_room() {
+            return Err(faults::price_fault(Cause::SourceFull, None));
+        }
+        Ok(())
+    }
+
     // One row more, or the first cause that applies, and then nothing changes: a malformed code, a component out of
     // range, an energy component other than the table's in that market, a code that is held already, a full table.
     // An accepted row gives its code the prices of its components, and no other code another price.
@@ -49,7 +72,7 @@ impl PriceTable {
           | Err f ↦ (row_refusal (rows_of self.old) row ≡ Some f) × (self.new ≡ self.old)
         ] }
     {
-        rows::check(&self.rows, &row)?;
+        self.check(&row)?;
         self.rows.push(row);
         Ok(())
     }
