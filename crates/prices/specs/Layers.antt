@@ -1,5 +1,5 @@
 -- A layer of groups over a source: what it says, and which group may be formed.
-use Rattle.std.specs.Prelude.{◌≡◌, Bool, cond, not, List, [], ◌∷◌, ◌++◌, length, is_some, None, vec_items, Option, nat_lt}
+use Rattle.std.specs.Prelude.{◌≡◌, Bool, cond, not, fold, List, [], ◌∷◌, ◌++◌, length, is_some, None, vec_items, Option, nat_lt}
 use Rattle.measures.specs.Codes.{well_formed, same_code}
 use Rattle.measures.specs.declared.code.LocationCode.{LocationCode}
 use Rattle.measures.specs.declared.fault.Cause.TheVariants.{MalformedCode, PricedAlready, MemberWithoutPrice, SourceFull}
@@ -25,8 +25,7 @@ groups_of t = vec_items t.items
 
 -- each group in turn says the price of its own code, over what was said before
 abbrev pub laid_over : Quote → LocationCode → Market → Option Price → List Group → Option Price
-laid_over below c m said [] = said
-laid_over below c m said (g ∷ gs) = laid_over below c m (cond (same_code g.code c) (group_price below m (members_of g)) said) gs
+laid_over below c m = fold (λ said g. cond (same_code g.code c) (group_price below m (members_of g)) said)
 
 -- what the layer says: a group's price, for every other code what is said below; a malformed code has no price
 abbrev pub layer_quote : Quote → List Group → Quote

@@ -68,13 +68,15 @@ fn look_up<S: PriceSource>(
 ) -> Option<Price>
     ensures { result ≡ laid_over (S.quote below.now) code.now market (S.quote below.now code.now market) groups.now }
 {
-    let mut said = below.price(code, market);
-    for group in groups {
-        if group.code == *code {
-            said = mean_price(below, &group.members, market);
-        }
-    }
-    said
+    groups
+        .iter()
+        .fold(below.price(code, market), |said, group| {
+            if group.code == *code {
+                mean_price(below, &group.members, market)
+            } else {
+                said
+            }
+        })
 }
 
 // The same, where the code is well-formed.

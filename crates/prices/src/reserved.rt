@@ -3,7 +3,7 @@ ghost use Rattle.std.specs.Prelude.{◌≡◌, ◌<◌, ◌≤◌, [], ◌∷◌
 ghost use Rattle.measures.specs.declared.fault.Cause.TheVariants.{OutOfMemory};
 ghost use Rattle.prices.specs.Refusals.{price_fault};
 
-use crate::faults;
+use crate::faults::price_fault;
 use measures::fault::{Cause, Fault};
 use std::alloc::Global;
 
@@ -20,7 +20,7 @@ impl<T, const MOST: usize> Reserved<T, MOST> {
     pub fn new(heap: Global) -> Result<Reserved<T, MOST>, Fault>
         ensures { elim result [ Ok list ↦ vec_items list.items ≡ [] | Err f ↦ f ≡ price_fault OutOfMemory None ] }
     {
-        let items = Vec::with_capacity(heap, MOST).map_err(|_| faults::price_fault(
+        let items = Vec::with_capacity(heap, MOST).map_err(|_| price_fault(
             Cause::OutOfMemory,
             None,
         ))?;

@@ -9,7 +9,7 @@ ghost use Rattle.measures.specs.Codes.{well_formed};
 ghost use Rattle.prices.specs.Guarded.{guard_both, guarded_alike};
 ghost use Rattle.prices.specs.declared.price.Price.{Price};
 
-use crate::faults;
+use crate::faults::price_fault;
 use crate::price::{Market, Price};
 use crate::row::Components;
 use crate::source::PriceSource;
@@ -32,7 +32,7 @@ fn energy_alone(energy: i64) -> Result<Price, Fault>
         congestion: 0,
         loss: 0,
     })
-    .ok_or(faults::price_fault(Cause::ComponentOutOfRange, None))
+    .ok_or(price_fault(Cause::ComponentOutOfRange, None))
 }
 
 impl SinglePrice {

@@ -3,11 +3,12 @@ ghost use Rattle.std.specs.Prelude.{◌≡◌, true, vec_items};
 ghost use Rattle.std.specs.List.{list_all};
 ghost use Rattle.prices.specs.Rows.{has_one_energy, row_in_range};
 
+use crate::faults::price_fault;
 use crate::price::{Market, Price};
 use crate::reserved::Reserved;
 use crate::row::PriceRow;
+use crate::rows;
 use crate::source::PriceSource;
-use crate::{faults, rows};
 use measures::code::LocationCode;
 use measures::fault::{Cause, Fault};
 use std::alloc::Global;
@@ -45,19 +46,19 @@ impl PriceTable {
     {
         let rows = self.rows.as_slice();
         if !row.code.is_well_formed() {
-            return Err(faults::price_fault(Cause::MalformedCode, None));
+            return Err(price_fault(Cause::MalformedCode, None));
         }
         if !(row.day_ahead.are_in_range() && row.real_time.are_in_range()) {
-            return Err(faults::price_fault(Cause::ComponentOutOfRange, None));
+            return Err(price_fault(Cause::ComponentOutOfRange, None));
         }
         if !rows::has_their_energy(rows, row) {
-            return Err(faults::price_fault(Cause::OtherEnergyComponent, None));
+            return Err(price_fault(Cause::OtherEnergyComponent, None));
         }
         if rows::holds(rows, &row.code) {
-            return Err(faults::price_fault(Cause::PricedAlready, None));
+            return Err(price_fault(Cause::PricedAlready, None));
         }
         if !self.rows.has_room() {
-            return Err(faults::price_fault(Cause::SourceFull, None));
+            return Err(price_fault(Cause::SourceFull, None));
         }
         Ok(())
     }
