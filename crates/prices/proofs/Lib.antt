@@ -2,4 +2,5 @@ mod Accepted
 mod Alone
 mod Failing
 mod Formed
+mod Products
 mod Turns

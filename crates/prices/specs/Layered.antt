@@ -1,7 +1,6 @@
 -- Groups laid over a source: the look-up, one group more, and what each price has from below.
-use Rattle.std.specs.Prelude.{◌≡◌, ℕ, ◌+◌, ◌<◌, ◌≤◌, Bool, true, false, cond, ◌&&◌, List, [], ◌∷◌, ◌++◌, length, drop, ℤ, is_some, Some, None, Option, slice_index_or, unsigned_abs, refl}
+use Rattle.std.specs.Prelude.{◌≡◌, ℕ, ◌≤◌, Bool, true, false, cond, ◌&&◌, List, [], ◌∷◌, ◌++◌, length, ℤ, is_some, Some, None, Option, unsigned_abs, refl}
 use Rattle.std.proofs.Common.{sym, ◌∙◌, ap, ap₂, arith}
-use Rattle.std.proofs.lemmas.List.{at_drop_more, at_drop_all}
 use Rattle.std.proofs.lemmas.Bool.{and_from, and_parts, le-leb}
 use Rattle.measures.specs.Codes.{same_code}
 use Rattle.measures.specs.declared.code.LocationCode.{LocationCode}
@@ -23,13 +22,6 @@ use Rattle.prices.specs.Summed.{nearest_bound, total_positive, weighted_bound}
 -- what is said after one group
 abbrev pub says : Quote → LocationCode → Market → Option Price → Group → Option Price
 says q c m said g = cond (same_code g.code c) (group_price q m (members_of g)) said
-
--- a turn of the look-up, where x is the group that is read at i
-pub laid_more : (q : Quote) (c : LocationCode) (m : Market) (said : Option Price) (gs : List Group) (i : ℕ) (x : Group) → i < length gs → x ≡ slice_index_or gs i x → laid_over q c m said (drop i gs) ≡ laid_over q c m (says q c m said x) (drop (i + 1) gs)
-laid_more q c m said gs i x h r = at_drop_more (laid_over q c m said) gs i x h ∙ ap (λ (y : Group). laid_over q c m (says q c m said y) (drop (i + 1) gs)) (sym r)
-
-pub laid_end : (q : Quote) (c : LocationCode) (m : Market) (said : Option Price) (gs : List Group) (i : ℕ) → length gs ≤ i → laid_over q c m said (drop i gs) ≡ said
-laid_end q c m said gs i h = at_drop_all (laid_over q c m said) gs i h
 
 -- one group more speaks last
 pub laid_push : (q : Quote) (c : LocationCode) (m : Market) (said : Option Price) (gs : List Group) (g : Group) → laid_over q c m said (gs ++ g ∷ []) ≡ says q c m (laid_over q c m said gs) g

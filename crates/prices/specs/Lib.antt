@@ -13,5 +13,4 @@ pub mod Guarded
 pub mod Layered
 pub mod Prices
 pub mod Summed
-pub mod Products
 pub mod Found

@@ -1,9 +1,8 @@
-use Rattle.std.proofs.Common.{[], pos, refl, ap, arith}
+use Rattle.std.proofs.Common.{[], pos, ap, arith}
 use Rattle.prices.specs.Means.{congestion_of, loss_of}
 use Rattle.prices.specs.Members.{total_weight}
-use Rattle.prices.specs.Summed.{total_few, total_more}
 use Rattle.prices.specs.declared.member.Member.{Member}
-use Rattle.prices.proofs.Turns.{priced_again, sum_again, total_again}
+use Rattle.prices.proofs.Turns.{priced_again, sum_again, total_few, total_more}
 use Rattle.prices.proofs.layer.sums_over.Goals as goal
 
 -- what is read past the end
@@ -26,8 +25,8 @@ loop-member-preserved g c =
     let i = c.loop-member.member-index in
     let here = c.loop-member-test.true in
     record {
-      weight = total_again xs i blank _ _ _ here refl c.with-sums.ensures.weight c.loop-member.invariant.weight;
-      congestion = sum_again congestion_of q c.args.market xs i blank c.in_ok-price.price _ _ _ here c.in_ok-price.ensures refl c.with-sums.ensures.congestion c.loop-member.invariant.congestion;
-      loss = sum_again loss_of q c.args.market xs i blank c.in_ok-price.price _ _ _ here c.in_ok-price.ensures refl c.with-sums.ensures.loss c.loop-member.invariant.loss;
+      weight = omega (arith, total_more xs i blank here, c.with-sums.ensures.weight, c.loop-member.invariant.weight);
+      congestion = sum_again congestion_of q c.args.market xs i blank c.in_ok-price.price _ _ here c.in_ok-price.ensures c.with-sums.ensures.congestion c.loop-member.invariant.congestion;
+      loss = sum_again loss_of q c.args.market xs i blank c.in_ok-price.price _ _ here c.in_ok-price.ensures c.with-sums.ensures.loss c.loop-member.invariant.loss;
       priced = priced_again q c.args.market xs i blank c.in_ok-price.price here c.in_ok-price.ensures c.loop-member.invariant.priced;
     }

@@ -1,4 +1,4 @@
-use Rattle.prices.specs.Products.{product_fits, sum_fits, sum_value}
+use Rattle.prices.proofs.Products.{product_fits, sum_fits, sum_value}
 use Rattle.prices.proofs.sums.with_component.Goals as goal
 
 pub overflow_mul-result : goal.overflow_mul-result

@@ -1,6 +1,6 @@
 use Rattle.std.proofs.Common.{◌≡◌, nat_abs, ap, ◌∙◌, arith}
 use Rattle.prices.specs.Prices.{congestion_bound, loss_bound}
-use Rattle.prices.specs.Products.{small_through, sum_within}
+use Rattle.prices.proofs.Products.{small_through, sum_within}
 use Rattle.prices.specs.Summed.{weight_bounds}
 use Rattle.prices.proofs.sums.Sums.with.Goals as goal
 

@@ -1,21 +1,10 @@
 -- A sum with one weighted component more: what it is, and that it fits.
-use Rattle.std.specs.Prelude.{◌≡◌, ℕ, suc, ◌+◌, ◌*◌, ◌^◌, ◌<◌, ◌≤◌, ℤ, pos, negsuc, ◌+ℤ◌, ◌*ℤ◌, neg_ℤ, FitsSigned, unsigned_abs, refl}
+use Rattle.std.specs.Prelude.{◌≡◌, ℕ, ◌+◌, ◌*◌, ◌^◌, ◌<◌, ◌≤◌, ℤ, pos, negsuc, ◌+ℤ◌, ◌*ℤ◌, FitsSigned, unsigned_abs}
 use Rattle.std.proofs.Common.{sym, subst, ap₂, ◌∙◌, mul-add, mul-le-mul, mul-le-mul_right, arith, to_z, of_z}
-use borrow.Author.Differences.{abs_is, neg_is}
 use Rattle.std.specs.Int.Signed.{mag}
 use Rattle.std.specs.Int.{w64}
-use Rattle.std.proofs.lemmas.Int.{ints, to_z-of_z}
-
--- the size of a product is the product of the sizes
-pub abs_mul : (a b : ℤ) → unsigned_abs (a *ℤ b) ≡ unsigned_abs a * unsigned_abs b
-abs_mul (pos a) (pos b) = refl
-abs_mul (pos a) (negsuc b) = omega (arith, abs_is (neg_ℤ (pos (a * suc b))), neg_is (pos (a * suc b)))
-abs_mul (negsuc a) (pos b) = omega (arith, abs_is (neg_ℤ (pos (suc a * b))), neg_is (pos (suc a * b)))
-abs_mul (negsuc a) (negsuc b) = refl
-
--- the size of a sum is at most the sum of the sizes
-pub abs_add : (a b : ℤ) → unsigned_abs (a +ℤ b) ≤ unsigned_abs a + unsigned_abs b
-abs_add a b = omega (arith, ints)
+use Rattle.std.proofs.lemmas.Int.{to_z-of_z}
+use Rattle.prices.specs.Summed.{abs_add, abs_mul}
 
 pub sum_bound : (s x w : ℤ) → unsigned_abs x ≤ 100000 → unsigned_abs w ≤ 1000 → unsigned_abs (s +ℤ (x *ℤ w)) ≤ unsigned_abs s + 100000000
 sum_bound s x w h k =
