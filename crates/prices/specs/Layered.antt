@@ -2,6 +2,7 @@
 use Rattle.std.specs.Prelude.{◌≡◌, ℕ, ◌≤◌, Bool, true, false, cond, ◌&&◌, List, [], ◌∷◌, ◌++◌, length, ℤ, is_some, Some, None, Option, unsigned_abs, refl}
 use Rattle.std.proofs.Common.{sym, ◌∙◌, ap, ap₂, arith}
 use Rattle.std.proofs.lemmas.Bool.{and_from, and_parts, le-leb}
+use Rattle.std.proofs.lemmas.List.Sums.{fold-append}
 use Rattle.measures.specs.Codes.{same_code}
 use Rattle.measures.specs.declared.code.LocationCode.{LocationCode}
 use Rattle.prices.specs.Layers.{laid_over, members_of}
@@ -25,8 +26,7 @@ says q c m said g = cond (same_code g.code c) (group_price q m (members_of g)) s
 
 -- one group more speaks last
 pub laid_push : (q : Quote) (c : LocationCode) (m : Market) (said : Option Price) (gs : List Group) (g : Group) → laid_over q c m said (gs ++ g ∷ []) ≡ says q c m (laid_over q c m said gs) g
-laid_push q c m said [] g = refl
-laid_push q c m said (x ∷ gs) g = laid_push q c m (says q c m said x) gs g
+laid_push q c m said gs g = fold-append _ said gs (g ∷ [])
 
 -- the components of a group's price are in range
 first_bound : (q : Quote) (m : Market) (xs : List Member) → unsigned_abs (first_energy q m xs) ≤ 100000

@@ -1,8 +1,8 @@
 -- How large the sums over a group's members, and their means, can be.
-use Rattle.std.specs.Prelude.{◌≡◌, ℕ, suc, ◌+◌, ◌*◌, ◌/◌, ◌<◌, ◌≤◌, true, List, [], ◌∷◌, length, ℤ, pos, negsuc, ◌+ℤ◌, ◌*ℤ◌, neg_ℤ, Some, None, Option, nat_le, unsigned_abs, refl}
+use Rattle.std.specs.Prelude.{◌≡◌, ℕ, ◌+◌, ◌*◌, ◌/◌, ◌<◌, ◌≤◌, true, List, [], ◌∷◌, length, ℤ, pos, negsuc, ◌+ℤ◌, ◌*ℤ◌, neg_ℤ, Some, None, Option, nat_le, unsigned_abs, refl}
 use Rattle.std.proofs.Common.{div-lt_iff_lt-mul, mul-add, mul-le-mul_right, arith}
 use borrow.Author.Differences.{abs_is, neg_is}
-use Rattle.std.proofs.lemmas.Int.{ints}
+use Rattle.std.proofs.lemmas.Int.{ints, unsigned_abs-mul}
 use Rattle.std.proofs.lemmas.Bool.{and_parts, leb-true}
 use Rattle.measures.specs.Signs.{signed}
 use Rattle.prices.specs.Means.{component, nearest_mean, weighted_sum}
@@ -11,13 +11,6 @@ use Rattle.prices.specs.Quotes.{Quote}
 use Rattle.prices.specs.declared.member.Member.{Member}
 use Rattle.prices.specs.declared.price.Market.{Market}
 use Rattle.prices.specs.declared.price.Price.{Price}
-
--- the size of a product is the product of the sizes
-pub abs_mul : (a b : ℤ) → unsigned_abs (a *ℤ b) ≡ unsigned_abs a * unsigned_abs b
-abs_mul (pos a) (pos b) = refl
-abs_mul (pos a) (negsuc b) = omega (arith, abs_is (neg_ℤ (pos (a * suc b))), neg_is (pos (a * suc b)))
-abs_mul (negsuc a) (pos b) = omega (arith, abs_is (neg_ℤ (pos (suc a * b))), neg_is (pos (suc a * b)))
-abs_mul (negsuc a) (negsuc b) = refl
 
 -- the size of a sum is at most the sum of the sizes
 pub abs_add : (a b : ℤ) → unsigned_abs (a +ℤ b) ≤ unsigned_abs a + unsigned_abs b
@@ -48,7 +41,7 @@ weighted_bound part b q m (x ∷ xs) =
     let c = component part (q x.code m) in
     let rest = weighted_bound part b q m xs in
     let a = abs_add (c *ℤ x.weight) (weighted_sum part q m xs) in
-    let e = abs_mul c x.weight in
+    let e = unsigned_abs-mul c x.weight in
     let p = mul-le-mul_right (unsigned_abs x.weight) (component_bound part b (q x.code m)) in
     let d = mul-add 100000 (unsigned_abs x.weight) (total_weight xs) in
     omega arith

@@ -1,7 +1,6 @@
 // Members of a group of locations.
 ghost use Rattle.std.specs.Prelude.{◌≡◌, ◌≤◌, true, length, not, position};
-ghost use Rattle.std.specs.List.{list_all};
-ghost use Rattle.prices.specs.Members.{weight_in_range};
+ghost use Rattle.prices.specs.Members.{weight_in_range, weights_in_range};
 
 use crate::faults::price_fault;
 use arrayvec::ArrayVec;
@@ -40,11 +39,11 @@ impl Member {
 // One to eight members, each with a weight in range. They stand in the value itself, so that forming a group never wants
 // memory.
 #[derive(Drop)]
-pub struct Members {
+pub(crate) struct Members {
     list: ArrayVec<Member, MOST_MEMBERS>,
     ghost some: { 1 ≤ length list.items },
     ghost few: { length list.items ≤ 8 },
-    ghost weighed: { list_all weight_in_range list.items ≡ true },
+    ghost weighed: { weights_in_range list.items ≡ true },
 }
 
 // The index of the first member whose weight is out of range.
@@ -65,12 +64,10 @@ impl Members {
           | Err f ↦ members_refusal members.now ≡ Some f
         ] }
     {
-        let list = ArrayVec::try_from(members).map_err(|_| price_fault(
-            Cause::GroupOutOfRange,
-            None,
-        ))?;
+        let other_count = price_fault(Cause::GroupOutOfRange, None);
+        let list = ArrayVec::try_from(members).map_err(|_| other_count)?;
         if list.is_empty() {
-            return Err(price_fault(Cause::GroupOutOfRange, None));
+            return Err(other_count);
         }
         if let Some(i) = first_out_of_range(members) {
             return Err(price_fault(Cause::GroupOutOfRange, Some(i + 1)));

@@ -20,10 +20,8 @@ impl<T, const MOST: usize> Reserved<T, MOST> {
     pub fn new(heap: Global) -> Result<Reserved<T, MOST>, Fault>
         ensures { elim result [ Ok list ↦ vec_items list.items ≡ [] | Err f ↦ f ≡ price_fault OutOfMemory None ] }
     {
-        let items = Vec::with_capacity(heap, MOST).map_err(|_| price_fault(
-            Cause::OutOfMemory,
-            None,
-        ))?;
+        let out_of_memory = price_fault(Cause::OutOfMemory, None);
+        let items = Vec::with_capacity(heap, MOST).map_err(|_| out_of_memory)?;
         Ok(Reserved { items })
     }
 

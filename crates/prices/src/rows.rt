@@ -1,4 +1,4 @@
-// What a list of price rows says of a code, and which row may be added to it.
+// What a list of price rows says of a code.
 ghost use Rattle.std.specs.Prelude.{◌≡◌, Some, None, option_copied};
 ghost use Rattle.prices.specs.Priced.{price_of};
 ghost use Rattle.prices.specs.Rows.{components_in, held as holds_code, row_with, rows_quote, fits_energy};

@@ -8,7 +8,7 @@ use crate::price::Price;
 
 // The sum of the weights, and the sums of weight × component, whose size the weights bound.
 #[derive(Clone, Copy)]
-pub struct Sums {
+pub(crate) struct Sums {
     weight: u64,
     congestion: i64,
     loss: i64,

@@ -1,11 +1,12 @@
-use Rattle.prices.proofs.Products.{product_fits, sum_fits, sum_value}
+use Rattle.std.proofs.Common.{◌^◌, ◌<◌, ◌+ℤ◌, ◌*ℤ◌, nat_abs, w64, SFits, arith, rules, lit<}
+use Rattle.std.proofs.lemmas.Int.{fits_signed_from_abs, fits_signed_mul}
+use Rattle.prices.proofs.Products.{sum_bound}
 use Rattle.prices.proofs.sums.with_component.Goals as goal
 
-pub overflow_mul-result : goal.overflow_mul-result
-overflow_mul-result c = product_fits c.args.component c.args.weight c.ranges.component c.ranges.weight c.requires.component c.requires.weight
-
-pub overflow_add-result : goal.overflow_add-result
-overflow_add-result c = sum_fits c.args.sum c.args.component c.args.weight c.ranges.sum c.ranges.component c.ranges.weight c.requires.component c.requires.weight c.requires.sum
-
 pub returns : goal.returns
-returns c = sum_value c.args.sum c.args.component c.args.weight c.ranges.sum c.ranges.component c.ranges.weight c.requires.component c.requires.weight c.requires.sum
+returns c =
+    let product : SFits w64 (c.args.component *ℤ c.args.weight) = fits_signed_mul w64 c.args.component c.args.weight 100000 1000 c.requires.component c.requires.weight (lit< tt) in
+    let bound = sum_bound c.args.sum c.args.component c.args.weight c.requires.component c.requires.weight in
+    let size : nat_abs (c.args.sum +ℤ (c.args.component *ℤ c.args.weight)) < 2 ^ 63 = omega arith in
+    let total : SFits w64 (c.args.sum +ℤ (c.args.component *ℤ c.args.weight)) = fits_signed_from_abs w64 _ size in
+    search rules

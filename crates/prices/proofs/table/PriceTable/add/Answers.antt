@@ -1,4 +1,4 @@
-use Rattle.std.proofs.Common.{◌≡◌, true, List, vec_items, sym, subst, rules}
+use Rattle.std.proofs.Common.{◌≡◌, true, List, [], ◌∷◌, ◌++◌, vec_items, sym, subst, rules}
 use Rattle.std.specs.List.{list_all}
 use Rattle.prices.specs.Quotes.{AddsPrice}
 use Rattle.prices.specs.Rows.{components_in, has_one_energy, row_in_range, rows_quote}
@@ -13,13 +13,14 @@ pub invariant_of-self : goal.invariant_of-self
 invariant_of-self c =
     let rs = vec_items c.args.self.now.rows.items in
     let row = accepted_row rs c.args.row c.in_ok-check.ensures in
+    let added : vec_items c.push.new.self.items ≡ rs ++ c.args.row ∷ [] = search rules in
     record {
-      in_range = subst (λ (xs : List PriceRow). list_all row_in_range xs ≡ true) (sym c.push.ensures) (all_push row_in_range rs c.args.row c.args.self.now.in_range row.ranged);
-      one_energy = subst (λ (xs : List PriceRow). has_one_energy xs ≡ true) (sym c.push.ensures) (energy_push rs c.args.row c.args.self.now.one_energy row.fits);
+      in_range = subst (λ (xs : List PriceRow). list_all row_in_range xs ≡ true) (sym added) (all_push row_in_range rs c.args.row c.args.self.now.in_range row.ranged);
+      one_energy = subst (λ (xs : List PriceRow). has_one_energy xs ≡ true) (sym added) (energy_push rs c.args.row c.args.self.now.one_energy row.fits);
     }
 
 pub returns : goal.returns
 returns c =
     let rs = vec_items c.args.self.now.rows.items in
-    let adds = subst (λ (xs : List PriceRow). AddsPrice (rows_quote rs) (rows_quote xs) c.args.row.code (components_in c.args.row)) (sym c.push.ensures) (row_adds rs c.args.row c.in_ok-check.ensures) in
-    (c.in_ok-check.ensures, c.push.ensures, adds)
+    let added : vec_items c.push.new.self.items ≡ rs ++ c.args.row ∷ [] = search rules in
+    (c.in_ok-check.ensures, added, subst (λ (xs : List PriceRow). AddsPrice (rows_quote rs) (rows_quote xs) c.args.row.code (components_in c.args.row)) (sym added) (row_adds rs c.args.row c.in_ok-check.ensures))
