@@ -1,5 +1,5 @@
 -- A price with an energy component alone.
-use Rattle.std.proofs.Common.{◌≡◌, true, false, ℤ, is_some, Some, None, Ok, Err, Option, Result, sym, ap, subst, ◌∙◌, rules}
+use Rattle.std.proofs.Common.{◌≡◌, true, false, ℤ, is_some, Some, None, Ok, Err, Option, Result, sym, ap, subst, rules}
 use Rattle.std.specs.Option.{ok_or}
 use Rattle.std.proofs.lemmas.Bool.{and_parts, cond-true}
 use Rattle.measures.specs.Codes.{well_formed}
@@ -17,12 +17,12 @@ use Rattle.prices.specs.declared.single.SinglePrice.{SinglePrice}
 use Rattle.prices.specs.Prices.{price_has, price_some}
 
 -- an energy component alone is taken as a price, or refused as out of range
-pub told : (e w : ℤ) (o : Option Price) (r : Result Price Fault) → w ≡ e → o ≡ price_of (energy_alone w) → r ≡ ok_or o (price_fault ComponentOutOfRange None) →
+pub told : (e : ℤ) (o : Option Price) (r : Result Price Fault) → o ≡ price_of (energy_alone e) → r ≡ ok_or o (price_fault ComponentOutOfRange None) →
     elim r as (λ x. Type 0) [ Ok p ↦ p.components ≡ energy_alone e | Err f ↦ (in_range e ≡ false) × (f ≡ price_fault ComponentOutOfRange None) ]
-told e w (Some p) (Ok q) same g h = let k : p ≡ q = cc in subst (λ x. x.components ≡ energy_alone e) k (price_has _ p (sym g) ∙ ap energy_alone same)
-told e w None (Err f) same g h = (search (rules, price_some (energy_alone e), ap is_some g, same), cc)
-told e w (Some p) (Err f) same g h = cc
-told e w None (Ok q) same g h = cc
+told e (Some p) (Ok q) g h = let k : p ≡ q = cc in subst (λ x. x.components ≡ energy_alone e) k (price_has _ p (sym g))
+told e None (Err f) g h = (search (rules, price_some (energy_alone e), ap is_some g), cc)
+told e (Some p) (Err f) g h = cc
+told e None (Ok q) g h = cc
 
 -- a price with an energy component alone has it in range
 pub alone_in_range : (p : Price) (e : ℤ) → p.components ≡ energy_alone e → in_range e ≡ true

@@ -1,6 +1,6 @@
 -- How large a sum is with one weighted component more.
 use Rattle.std.specs.Prelude.{◌≡◌, ℕ, ◌+◌, ◌*◌, ◌≤◌, ℤ, ◌+ℤ◌, ◌*ℤ◌, unsigned_abs}
-use Rattle.std.proofs.Common.{sym, subst, ap₂, ◌∙◌, mul-add, mul-le-mul, mul-le-mul_right, arith, to_z, of_z}
+use Rattle.std.proofs.Common.{mul-add, mul-le-mul, mul-le-mul_right, arith, to_z, of_z}
 use Rattle.std.specs.Int.{w64}
 use Rattle.std.proofs.lemmas.Int.{fits_signed_from_abs, to_z-of_z, unsigned_abs-mul}
 use Rattle.prices.specs.Summed.{abs_add}
@@ -18,13 +18,10 @@ pub small_through : (z : ℤ) → unsigned_abs z ≤ 800000000 → to_z w64 (of_
 small_through z h = to_z-of_z w64 z (fits_signed_from_abs w64 z (omega arith))
 
 -- a sum that the weights bound stays so with one weighted component more
-pub sum_within : (s x y w r : ℤ) (n k : ℕ) → unsigned_abs s ≤ 100000 * n → n ≤ 8000 → y ≡ x → unsigned_abs x ≤ 100000 → unsigned_abs w ≤ 1000 → k ≡ unsigned_abs w → n + k ≤ 8000 → r ≡ to_z w64 (of_z w64 s) +ℤ (to_z w64 (of_z w64 y) *ℤ to_z w64 (of_z w64 w)) → unsigned_abs (to_z w64 (of_z w64 r)) ≤ 100000 * (n + k)
-sum_within s x y w r n k hs few same hx hw kw all e =
-    let is : r ≡ s +ℤ (x *ℤ w) = e ∙ ap₂ ◌+ℤ◌ (small_through s (omega arith)) (ap₂ ◌*ℤ◌ (small_through y (subst (λ (z : ℤ). unsigned_abs z ≤ 800000000) (sym same) (omega arith)) ∙ same) (small_through w (omega arith))) in
+pub sum_within : (s x w : ℤ) (n : ℕ) → unsigned_abs s ≤ 100000 * n → unsigned_abs x ≤ 100000 → unsigned_abs (s +ℤ (x *ℤ w)) ≤ 100000 * (n + unsigned_abs w)
+sum_within s x w n hs hx =
     let product = mul-le-mul_right (unsigned_abs w) hx in
     let size = unsigned_abs-mul x w in
     let total = abs_add s (x *ℤ w) in
-    let apart = mul-add 100000 n k in
-    let within : unsigned_abs (s +ℤ (x *ℤ w)) ≤ 100000 * (n + k) = omega arith in
-    let bound : unsigned_abs r ≤ 100000 * (n + k) = subst (λ (z : ℤ). unsigned_abs z ≤ 100000 * (n + k)) (sym is) within in
-    subst (λ (z : ℤ). unsigned_abs z ≤ 100000 * (n + k)) (sym (small_through r (omega arith))) bound
+    let apart = mul-add 100000 n (unsigned_abs w) in
+    omega arith

@@ -1,6 +1,6 @@
-use Rattle.std.proofs.Common.{List, [], get_or, pos, ap, ap₂, ◌∙◌, w64, SFits, rules}
-use Rattle.std.proofs.lemmas.Int.{to_z-of_z}
+use Rattle.std.proofs.Common.{◌≡◌, List, [], get_or, pos, ap, ap₂, ◌∙◌, rules}
 use Rattle.prices.specs.Means.{component, energy_of, nearest_mean}
+use Rattle.prices.specs.Priced.{price_of}
 use Rattle.prices.specs.declared.member.Member.{Member}
 use Rattle.prices.proofs.Turns.{mean_is}
 use Rattle.prices.proofs.layer.mean_price.Goals as goal
@@ -14,11 +14,9 @@ returns g c =
     let q = g.S.PriceSource.quote c.args.below.now in
     let sums = c.in_ok-sums.ensures.1 in
     let first = c.in_ok-first.ensures ∙ ap (λ (xs : List Member). q (get_or xs 0 blank).code c.args.market) c.as_slice.ensures in
-    let energy-fits : SFits w64 c.energy.result = search rules in
-    let congestion-fits : SFits w64 c.congestion_mean.result = search rules in
-    let loss-fits : SFits w64 c.loss_mean.result = search rules in
+    let made : c.new.result ≡ price_of (record { energy = c.energy.result; congestion = c.congestion_mean.result; loss = c.loss_mean.result }) = search rules in
     mean_is q c.args.market c.args.members.now.list.items blank _ _ _ c.new.result c.args.members.now.some c.in_ok-sums.ensures.0
-    (to_z-of_z w64 _ energy-fits ∙ (c.energy.ensures ∙ ap (component energy_of) first))
-    (to_z-of_z w64 _ congestion-fits ∙ (c.congestion_mean.ensures ∙ ap₂ nearest_mean sums.congestion sums.weight))
-    (to_z-of_z w64 _ loss-fits ∙ (c.loss_mean.ensures ∙ ap₂ nearest_mean sums.loss sums.weight))
-    c.new.ensures
+    (c.energy.ensures ∙ ap (component energy_of) first)
+    (c.congestion_mean.ensures ∙ ap₂ nearest_mean sums.congestion sums.weight)
+    (c.loss_mean.ensures ∙ ap₂ nearest_mean sums.loss sums.weight)
+    made
