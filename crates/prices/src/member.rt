@@ -58,6 +58,7 @@ impl Members {
     ghost use Rattle.prices.specs.Members.{members_refusal};
 
     // These members; refused where there are none or more than eight, or at the first whose weight is out of range.
+    #[tactic(auto, using(crate::proofs::Failing::none_fails))]
     pub(crate) fn new(members: &[Member]) -> Result<Members, Fault>
         ensures { elim result [
           | Ok accepted ↦ (members_refusal members.now ≡ None) × (accepted.list.items ≡ members.now)
