@@ -25,7 +25,7 @@ components_in r RealTime = r.real_time
 abbrev pub row_with : List PriceRow → LocationCode → Option PriceRow
 row_with rs c = find (λ r. same_code r.code c) rs
 
--- its price
+-- the price in that row
 abbrev pub row_quote : List PriceRow → Quote
 row_quote rs c m = option_and_then (λ r. price_of (components_in r m)) (row_with rs c)
 

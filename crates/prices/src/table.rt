@@ -80,7 +80,7 @@ impl PriceTable {
 }
 
 impl PriceSource for PriceTable {
-    ghost use Rattle.std.proofs.Common.{arith, rules};
+    ghost use Rattle.std.proofs.Common.{rules};
     ghost use Rattle.measures.specs.Codes.{well_formed};
     ghost use Rattle.prices.specs.Found.{found_alike, found_both};
     ghost use Rattle.prices.specs.Guarded.{guard_both, guarded};
