@@ -135,7 +135,7 @@ use Rattle.std.specs.Prelude.{◌≡◌, ℕ, true, false, List, [], ◌∷◌, 
 use Rattle.measures.specs.Codes.{well_formed}
 use Rattle.measures.specs.declared.code.LocationCode.{LocationCode}
 use Rattle.measures.specs.declared.fault.Cause.TheVariants.{UnknownParticipant, QuantityOutOfRange, MalformedCode, BuyerIsSeller, UnknownPosting, PostingWithoutPrice, WrongPhase, ListFull, MarketLimit, VoidHour}
-use Rattle.prices.specs.Priced.{priced}
+use Rattle.prices.specs.Priced.{price_of}
 use Rattle.prices.specs.Quotes.{Quote}
 use Rattle.prices.specs.Rows.{rows_quote}
 use Rattle.prices.specs.declared.price.Market.{Market}
@@ -164,7 +164,7 @@ funds_after o calls = (told o (accepted o (reverse calls))).fund_amount ∷ (tol
 module _
     (malformed : (q : Quote) (c : LocationCode) (m : Market) → well_formed c ≡ false → q c m ≡ None)
     (both : (q : Quote) (c : LocationCode) → is_some (q c DayAhead) ≡ is_some (q c RealTime))
-    (alike : (q : Quote) (c d : LocationCode) (m : Market) (p r : Price) → q c m ≡ Some p → q d m ≡ Some r → p.energy ≡ r.energy)
+    (alike : (q : Quote) (c d : LocationCode) (m : Market) (p r : Price) → q c m ≡ Some p → q d m ≡ Some r → p.components.energy ≡ r.components.energy)
     (near : (f : ℤ → ℤ) (x : ℤ) → Near 1000 (pos 1000 *ℤ f x) x)
     (odd : (f : ℤ → ℤ) (x : ℤ) → f (neg_ℤ x) ≡ neg_ℤ (f x))
     (fair : (f : ℤ → List ℤ → List ℤ) (pool : ℤ) (ws : List ℤ) → shareable pool ws (length ws) ≡ true → Fair pool ws (f pool ws)) where
@@ -193,7 +193,7 @@ def theorems(i, opening, calls, hour):
     for name, (found, expected) in facts.items():
         text += f"""
   {name}_{i} : {found} ≡ {expected}
-  unfolding priced
+  unfolding price_of
   {name}_{i} = refl
 """
     return text

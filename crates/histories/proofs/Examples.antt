@@ -1,12 +1,13 @@
 -- The worked hours, computed.
 use Rattle.std.proofs.Common.{◌≡◌, ℕ, zero, suc, ◌+◌, ◌*◌, ◌/◌, ◌<◌, true, List, length, ℤ, pos, negsuc, ◌-ℤ◌, ◌*ℤ◌, neg_ℤ, nat_abs, None, sym, refl, arith}
+use Rattle.std.specs.List.{list_all}
 use lib.IntN.{neg_ℤ-neg_ℤ}
 use borrow.Author.Differences.{ints}
 use Rattle.std.proofs.lemmas.Bool.{cond-false}
 use Rattle.measures.specs.Codes.{well_formed}
 use Rattle.measures.specs.Signs.{signed}
-use Rattle.prices.specs.Priced.{priced}
-use Rattle.prices.specs.Rows.{rows_quote, row_quote, every, row_in_range, has_one_energy}
+use Rattle.prices.specs.Priced.{price_of}
+use Rattle.prices.specs.Rows.{rows_quote, row_quote, row_in_range, has_one_energy}
 use Rattle.prices.specs.declared.row.PriceRow.{PriceRow}
 use Rattle.prices.specs.Found.{found_alike, found_both}
 use Rattle.prices.specs.Guarded.{guard_both, guarded}
@@ -33,7 +34,7 @@ whole_near : (n : ℕ) → nat_abs (pos (1000 * (n / 1000)) -ℤ pos n) < 1000
 whole_near n = omega (arith, ints)
 
 -- ---- lawful terms over the rows of a price table
-unfoldable terms_over : (rows : List PriceRow) → every row_in_range rows ≡ true → has_one_energy rows ≡ true → (rounds : ℤ → ℤ) → ((x : ℤ) → Near 1000 (pos 1000 *ℤ rounds x) x) → ((x : ℤ) → rounds (neg_ℤ x) ≡ neg_ℤ (rounds x)) →
+unfoldable terms_over : (rows : List PriceRow) → list_all row_in_range rows ≡ true → has_one_energy rows ≡ true → (rounds : ℤ → ℤ) → ((x : ℤ) → Near 1000 (pos 1000 *ℤ rounds x) x) → ((x : ℤ) → rounds (neg_ℤ x) ≡ neg_ℤ (rounds x)) →
     (shares : ℤ → List ℤ → List ℤ) → ((pool : ℤ) (ws : List ℤ) → shareable pool ws (length ws) ≡ true → Fair pool ws (shares pool ws)) → TermsOf rows rounds shares
 terms_over rows ranges energies rounds near odd shares fair = record {
   terms = record {
@@ -62,18 +63,18 @@ other_terms =
 
 -- ---- the hours
 sample_hour : SampleHour sample_terms.terms
-unfolding priced sample_terms terms_over
+unfolding price_of sample_terms terms_over
 sample_hour = record { first = refl; second = refl; fund_is = refl }
 
 generation_alone : GenerationAlone sample_terms.terms
-unfolding priced sample_terms terms_over
+unfolding price_of sample_terms terms_over
 generation_alone = record { lines_are = refl; fund_is = refl }
 
 limits_met : LimitsMet
 limits_met = record { largest_taken = refl; one_more_refused = refl; market_filled = refl; market_passed = refl }
 
 refusals_met : RefusalsMet sample_terms.terms
-unfolding priced sample_terms terms_over
+unfolding price_of sample_terms terms_over
 refusals_met = record {
   void_by_count = refl;
   void_by_rows = refl;
@@ -93,7 +94,7 @@ refusals_met = record {
 }
 
 history_played : Played sample_terms.terms other_terms.terms
-unfolding priced sample_terms other_terms terms_over
+unfolding price_of sample_terms other_terms terms_over
 history_played = record {
   answers_are = refl;
   phase_is = refl;

@@ -19,7 +19,7 @@ pub record Terms : Type 0 where
   -- the laws of every price source
   pub malformed : (c : LocationCode) (m : Market) → well_formed c ≡ false → quote c m ≡ None
   pub both : (c : LocationCode) → is_some (quote c DayAhead) ≡ is_some (quote c RealTime)
-  pub alike : (c d : LocationCode) (m : Market) (p q : Price) → quote c m ≡ Some p → quote d m ≡ Some q → p.energy ≡ q.energy
+  pub alike : (c d : LocationCode) (m : Market) (p q : Price) → quote c m ≡ Some p → quote d m ≡ Some q → p.components.energy ≡ q.components.energy
   -- the laws of every rounding rule
   pub near : (x : ℤ) → Near 1000 (pos 1000 *ℤ rounds x) x
   pub odd : (x : ℤ) → rounds (neg_ℤ x) ≡ neg_ℤ (rounds x)
@@ -32,9 +32,9 @@ pub data Component : Type 0 where
   loss : Component
 
 abbrev pub component_of : Component → Price → ℤ
-component_of energy p = p.energy
-component_of congestion p = p.congestion
-component_of loss p = p.loss
+component_of energy p = p.components.energy
+component_of congestion p = p.components.congestion
+component_of loss p = p.components.loss
 
 -- a component in cents per MWh; 0 where there is no price
 abbrev pub component_in : Component → Option Price → ℤ
