@@ -59,41 +59,6 @@ fn mean_price<S: PriceSource>(below: &S, members: &Members, market: Market) -> O
     })
 }
 
-// What the groups in turn say of a code, over what is said below.
-fn look_up<S: PriceSource>(
-    below: &S,
-    groups: &[Group],
-    code: &LocationCode,
-    market: Market,
-) -> Option<Price>
-    ensures { result ≡ laid_over (S.quote below.now) code.now market (S.quote below.now code.now market) groups.now }
-{
-    groups
-        .iter()
-        .fold(below.price(code, market), |said, group| {
-            if group.code == *code {
-                mean_price(below, &group.members, market)
-            } else {
-                said
-            }
-        })
-}
-
-// The same, where the code is well-formed.
-fn quote_over<S: PriceSource>(
-    below: &S,
-    groups: &[Group],
-    code: &LocationCode,
-    market: Market,
-) -> Option<Price>
-    ensures { result ≡ layer_quote (S.quote below.now) groups.now code.now market }
-{
-    if !code.is_well_formed() {
-        return None;
-    }
-    look_up(below, groups, code, market)
-}
-
 // The index of the first member with no price below.
 fn first_without_price<S: PriceSource>(below: &S, members: &[Member]) -> Option<usize>
     ensures { result ≡ position (λ x. not (has_price (S.quote below.now) x)) members.now }
@@ -101,35 +66,57 @@ fn first_without_price<S: PriceSource>(below: &S, members: &[Member]) -> Option<
     members.iter().position(|member| below.price(&member.code, Market::DayAhead).is_none())
 }
 
-// The members of a group that may be formed; refused for the first cause that applies.
-fn accept<S: PriceSource>(
-    below: &S,
-    groups: &GroupTable,
-    code: &LocationCode,
-    members: &[Member],
-) -> Result<Members, Fault>
-    ensures { elim result [
-      | Ok accepted ↦ (form_refusal (S.quote below.now) (groups_of groups.now) code.now members.now ≡ None) × (accepted.list.items ≡ members.now)
-      | Err f ↦ form_refusal (S.quote below.now) (groups_of groups.now) code.now members.now ≡ Some f
-    ] }
-{
-    if !code.is_well_formed() {
-        return Err(price_fault(Cause::MalformedCode, None));
-    }
-    if quote_over(below, groups.as_slice(), code, Market::DayAhead).is_some() {
-        return Err(price_fault(Cause::PricedAlready, None));
-    }
-    let accepted = Members::new(members)?;
-    if let Some(i) = first_without_price(below, members) {
-        return Err(price_fault(Cause::MemberWithoutPrice, Some(i + 1)));
-    }
-    if !groups.has_room() {
-        return Err(price_fault(Cause::SourceFull, None));
-    }
-    Ok(accepted)
-}
-
 impl<S: PriceSource> GroupLayer<S> {
+    // What the groups in turn say of a code, over what is said below.
+    fn look_up(&self, code: &LocationCode, market: Market) -> Option<Price>
+        ensures { result ≡ laid_over (S.quote self.now.below) code.now market (S.quote self.now.below code.now market) (groups_of self.now.groups) }
+    {
+        let below = &self.below;
+        self.groups
+            .as_slice()
+            .iter()
+            .fold(below.price(code, market), |said, group| {
+                if group.code == *code {
+                    mean_price(below, &group.members, market)
+                } else {
+                    said
+                }
+            })
+    }
+
+    // The same, where the code is well-formed.
+    fn quote(&self, code: &LocationCode, market: Market) -> Option<Price>
+        ensures { result ≡ layer_quote (S.quote self.now.below) (groups_of self.now.groups) code.now market }
+    {
+        if !code.is_well_formed() {
+            return None;
+        }
+        self.look_up(code, market)
+    }
+
+    // The members of a group that may be formed; refused for the first cause that applies.
+    fn accept(&self, code: &LocationCode, members: &[Member]) -> Result<Members, Fault>
+        ensures { elim result [
+          | Ok accepted ↦ (form_refusal (S.quote self.now.below) (groups_of self.now.groups) code.now members.now ≡ None) × (accepted.list.items ≡ members.now)
+          | Err f ↦ form_refusal (S.quote self.now.below) (groups_of self.now.groups) code.now members.now ≡ Some f
+        ] }
+    {
+        if !code.is_well_formed() {
+            return Err(price_fault(Cause::MalformedCode, None));
+        }
+        if self.quote(code, Market::DayAhead).is_some() {
+            return Err(price_fault(Cause::PricedAlready, None));
+        }
+        let accepted = Members::new(members)?;
+        if let Some(i) = first_without_price(&self.below, members) {
+            return Err(price_fault(Cause::MemberWithoutPrice, Some(i + 1)));
+        }
+        if !self.groups.has_room() {
+            return Err(price_fault(Cause::SourceFull, None));
+        }
+        Ok(accepted)
+    }
+
     // The groups of the table over the source. With none yet, every code has what is said below.
     pub fn over(below: S, groups: GroupTable) -> GroupLayer<S>
         ensures parts { (result.below ≡ below) × (result.groups ≡ groups) }
@@ -151,7 +138,7 @@ impl<S: PriceSource> GroupLayer<S> {
           | Err f ↦ (form_refusal (S.quote self.old.below) (groups_of self.old.groups) code members.now ≡ Some f) × (self.new ≡ self.old)
         ] }
     {
-        let members = accept(&self.below, &self.groups, &code, members)?;
+        let members = self.accept(&code, members)?;
         self.groups.push(Group { code, members });
         Ok(())
     }
@@ -173,6 +160,6 @@ impl<S: PriceSource> PriceSource for GroupLayer<S> {
         x.same ∙ (S.PriceSource.alike s.below x.at y.at m x.there y.there x.said y.said ∙ sym y.same) };
 
     fn price(&self, code: &LocationCode, market: Market) -> Option<Price> {
-        quote_over(&self.below, self.groups.as_slice(), code, market)
+        self.quote(code, market)
     }
 }
