@@ -20,9 +20,10 @@ impl<T, const MOST: usize> Reserved<T, MOST> {
     pub fn new(heap: Global) -> Result<Reserved<T, MOST>, Fault>
         ensures { elim result [ Ok list ↦ vec_items list.items ≡ [] | Err f ↦ f ≡ price_fault OutOfMemory None ] }
     {
-        let out_of_memory = price_fault(Cause::OutOfMemory, None);
-        let items = Vec::with_capacity(heap, MOST).map_err(|_| out_of_memory)?;
-        Ok(Reserved { items })
+        match Vec::with_capacity(heap, MOST) {
+            Ok(items) => Ok(Reserved { items }),
+            Err(_) => Err(price_fault(Cause::OutOfMemory, None)),
+        }
     }
 
     pub(crate) fn as_slice(&self) -> &[T]
