@@ -5,7 +5,7 @@ use expense_text::file::bill_of_file;
 use expense_text::refusal::refusal_row;
 use rules::sharing::LargestRemainder;
 use std::io;
-use std::io::{Read, Write};
+use std::io::Read;
 
 // One byte more than a file may have, so that a longer one is seen to be longer.
 fn read_input(rt: &HostRuntime) -> io::Result<Vec<u8>> {
@@ -16,9 +16,9 @@ fn read_input(rt: &HostRuntime) -> io::Result<Vec<u8>> {
 
 fn main(rt: HostRuntime) -> io::Result<()> {
     let input = read_input(&rt)?;
-    let page = match bill_of_file(rt.alloc(), &LargestRemainder, input.as_slice()) {
-        Ok(bill) => bill,
-        Err(fault) => refusal_row(rt.alloc(), &fault)?,
-    };
-    rt.stdout().write_all(page.as_slice())
+    let page = bill_of_file(rt.alloc(), &LargestRemainder, &input).or_else(|fault| refusal_row(
+        rt.alloc(),
+        &fault,
+    ))?;
+    print!(rt; "{page}")
 }

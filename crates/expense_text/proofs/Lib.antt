@@ -2,8 +2,9 @@ pub mod Columns
 pub mod Unbroken
 pub mod Uses
 mod Examples
-pub mod Puts
+pub mod Refused
+pub mod Sums
 pub mod Rows
-pub mod Weighed
-pub mod Filed
 pub mod Shown
+pub mod Weights
+pub mod Filed

@@ -1,24 +1,29 @@
--- The participants' rows of a bill, one more and at the end.
-use Rattle.std.proofs.Common.{◌≡◌, ℕ, ◌+◌, ◌<◌, ◌≤◌, List, ◌∷◌, ◌++◌, length, get_or, drop, sym, ap, ◌∙◌, append_assoc, add-one}
-use Rattle.std.proofs.lemmas.List.{append-nil, drop_more, drop_all}
+-- The participants' rows of a bill, as a loop writes them.
+use Rattle.std.proofs.Common.{◌≡◌, ℕ, ◌+◌, List, [], ◌∷◌, ◌++◌, map, Bor, sym, ap, ◌∙◌, append_assoc}
+use Rattle.std.proofs.lemmas.List.{flat_map_more}
+use Rattle.std.proofs.lemmas.List.Folds.{flat_map-map}
+use Rattle.std.specs.List.{enumerate_from, flat_map, zip}
 use Rattle.measures.specs.declared.amounts.Cents.{Cents}
-use Rattle.expense_text.specs.Bills.{two_rows, participant_rows}
+use Rattle.expense_text.specs.Bills.{charge_row, participant_rows, two_rows}
 
-rows_more : (n : ℕ) (xs ys : List Cents) (i : ℕ) (d : Cents) → i < length xs → i < length ys → participant_rows n (drop i xs) (drop i ys) ≡ two_rows n (get_or xs i d).0 (get_or ys i d).0 ++ participant_rows (n + 1) (drop (i + 1) xs) (drop (i + 1) ys)
-rows_more n xs ys i d h k =
-    ap (λ (l : List Cents). participant_rows n l (drop i ys)) (drop_more xs i d h)
-    ∙ ap (λ (l : List Cents). participant_rows n (get_or xs i d ∷ drop (i + 1) xs) l) (drop_more ys i d k)
-    ∙ ap (λ (m : ℕ). two_rows n (get_or xs i d).0 (get_or ys i d).0 ++ participant_rows m (drop (i + 1) xs) (drop (i + 1) ys)) (sym (add-one n))
+-- a participant's place, counted from 0, and its two amounts
+abbrev pub Charged : Type 0
+Charged = ℕ × (Bor Cents × Bor Cents)
+
+abbrev pub rows_of : List Charged → List ℕ
+rows_of = flat_map (λ p. two_rows (p.0 + 1) p.1.0.now.0 p.1.1.now.0)
 
 -- one participant more
-pub rows_step : (start before after : List ℕ) (n : ℕ) (xs ys : List Cents) (i : ℕ) (d : Cents) → i < length xs → i < length ys → after ≡ before ++ two_rows n (get_or xs i d).0 (get_or ys i d).0 → before ++ participant_rows n (drop i xs) (drop i ys) ≡ start ++ participant_rows 1 xs ys → after ++ participant_rows (n + 1) (drop (i + 1) xs) (drop (i + 1) ys) ≡ start ++ participant_rows 1 xs ys
-rows_step start before after n xs ys i d h k put inv =
-    ap (λ (l : List ℕ). l ++ participant_rows (n + 1) (drop (i + 1) xs) (drop (i + 1) ys)) put
-    ∙ append_assoc before (two_rows n (get_or xs i d).0 (get_or ys i d).0) (participant_rows (n + 1) (drop (i + 1) xs) (drop (i + 1) ys))
-    ∙ ap (λ (l : List ℕ). before ++ l) (sym (rows_more n xs ys i d h k))
-    ∙ inv
+pub one_more : (start page between after : List ℕ) (ps : List Charged) (p : Charged) → page ≡ start ++ rows_of ps → between ≡ page ++ charge_row (p.0 + 1) 21 p.1.0.now.0 → after ≡ between ++ charge_row (p.0 + 1) 22 p.1.1.now.0 → after ≡ start ++ rows_of (ps ++ (p ∷ []))
+one_more start page between after ps p so_far first second =
+    let row = charge_row (p.0 + 1) 22 p.1.1.now.0 in
+    second
+    ∙ ap (λ (bs : List ℕ). bs ++ row) (first ∙ ap (λ (bs : List ℕ). bs ++ charge_row (p.0 + 1) 21 p.1.0.now.0) so_far)
+    ∙ append_assoc (start ++ rows_of ps) (charge_row (p.0 + 1) 21 p.1.0.now.0) row
+    ∙ flat_map_more (λ (q : Charged). two_rows (q.0 + 1) q.1.0.now.0 q.1.1.now.0) start ps p
 
 -- after the last one
-pub rows_end : (start after : List ℕ) (n : ℕ) (xs ys : List Cents) (i : ℕ) → length xs ≤ i → after ++ participant_rows n (drop i xs) (drop i ys) ≡ start ++ participant_rows 1 xs ys → after ≡ start ++ participant_rows 1 xs ys
-rows_end start after n xs ys i h inv =
-    sym (ap (λ (l : List Cents). after ++ participant_rows n l (drop i ys)) (drop_all i xs h) ∙ append-nil after) ∙ inv
+pub all_rows : (start : List ℕ) (ps : List Charged) (xs ys : List Cents) → map (λ p. (p.0, (p.1.0.now, p.1.1.now))) ps ≡ enumerate_from 0 (zip xs ys) → start ++ rows_of ps ≡ start ++ participant_rows xs ys
+all_rows start ps xs ys e =
+    ap (λ (bs : List ℕ). start ++ bs)
+    (sym (flat_map-map (λ (q : ℕ × (Cents × Cents)). two_rows (q.0 + 1) q.1.0.0 q.1.1.0) (λ (p : Charged). (p.0, (p.1.0.now, p.1.1.now))) ps) ∙ ap (flat_map (λ (q : ℕ × (Cents × Cents)). two_rows (q.0 + 1) q.1.0.0 q.1.1.0)) e)

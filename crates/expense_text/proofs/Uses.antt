@@ -1,20 +1,22 @@
 -- The lines of a month's file one after another.
-use Rattle.std.proofs.Common.{◌≡◌, ℕ, suc, ◌+◌, ◌<◌, ◌⊎◌, List, [], ◌∷◌, ◌++◌, length, get_or, take, ℤ, sym, refl, ap, ◌∙◌, subst, ap₂, inl, inr, append_assoc, append-nil, arith}
-use Rattle.std.proofs.lemmas.List.{length-append, get_or_append_left, get_or_at, nil_from_length, take_at}
+use Rattle.std.proofs.Common.{None, Some, Err, Option, ◌≡◌, ℕ, suc, ◌+◌, ◌<◌, ◌⊎◌, List, [], ◌∷◌, ◌++◌, length, get_or, take, ℤ, sym, refl, ap, ◌∙◌, subst, ap₂, inl, inr, append_assoc, arith}
+use Rattle.std.proofs.lemmas.List.{length-append, get_or_append_left, get_or_at, take_at}
+use Rattle.std.specs.Option.{ok_or}
 use Rattle.measures.specs.declared.fault.Fault.{Fault}
 use Rattle.text.specs.Lines.{FirstLine, NoLineFeed}
 use Rattle.lines.specs.declared.month_use.MonthUse.{MonthUse}
 use Rattle.expense_text.proofs.Unbroken.{expense_unbroken, use_unbroken}
 use Rattle.expense_text.specs.Months.{AgainstLayout, AreUses, IsExpense, IsUse, NoExpense, NoUse, UsesBefore, WrongAmong, expense_line, layout_fault, no_memory, use_line}
 
+-- what is refused for want of a value is refused as it was said
+pub refused_so : {T E : Type 0} (o : Option T) (e f : E) → o ≡ None → Err f ≡ ok_or o e → f ≡ e
+refused_so None e f none h = cc
+refused_so (Some x) e f none h = cc
+
 -- where a first line ends there is a line feed
 line_end : (bs line rest : List ℕ) → FirstLine bs line rest → (length line < length bs) × (get_or bs (length line) 0 ≡ 10)
 line_end bs line rest f =
     (omega (arith, ap length f.parts, length-append line (10 ∷ rest)), ap (λ (xs : List ℕ). get_or xs (length line) 0) f.parts ∙ get_or_at line 10 rest 0 (length line) refl)
-
--- after a first line less is left
-pub shorter : (bs line rest : List ℕ) → FirstLine bs line rest → length rest < length bs
-shorter bs line rest f = omega (arith, ap length f.parts, length-append line (10 ∷ rest))
 
 -- without a line feed there is no line
 pub no_first_line : (bs line rest : List ℕ) → NoLineFeed bs → FirstLine bs line rest → ⊥
@@ -34,9 +36,6 @@ one_first_line bs line rest line' rest' f g =
     let n : length line' ≡ length line = grind arith in
     sym (take_at line' (10 ∷ rest') (length line) n) ∙ sym (ap (take (length line)) g.parts) ∙ ap (take (length line)) f.parts ∙ take_at line (10 ∷ rest) (length line) refl
 
-pub none_before : (bs : List ℕ) → UsesBefore [] bs bs
-none_before bs = record { front = []; parts = refl; lines = refl }
-
 -- one line more
 line_after : (n k : ℕ) (us : List MonthUse) (u : MonthUse) (front line : List ℕ) → AreUses n us front → IsUse line k u → k ≡ n + length us → AreUses n (us ++ (u ∷ [])) (front ++ (line ++ (10 ∷ [])))
 line_after n k [] u front line e h d =
@@ -52,12 +51,6 @@ one_more us u bs rest line more b f h =
       parts = b.parts ∙ ap (λ (xs : List ℕ). b.front ++ xs) (f.parts ∙ sym (append_assoc line (10 ∷ []) more)) ∙ sym (append_assoc b.front (line ++ (10 ∷ [])) more);
       lines = line_after 1 (suc (length us)) us u b.front line b.lines h (omega arith);
     }
-
--- where all lines are read, they are the participants'
-pub all_read : (us : List MonthUse) (bs rest : List ℕ) → UsesBefore us bs rest → length rest ≡ 0 → AreUses 1 us bs
-all_read us bs rest b h =
-    let e : b.front ≡ bs = sym (append-nil b.front) ∙ ap (λ (xs : List ℕ). b.front ++ xs) (sym (nil_from_length rest h)) ∙ sym b.parts in
-    subst (AreUses 1 us) e b.lines
 
 -- a participant's line and an expense's line are first lines, so a line is wrong that is not ended, or that states nothing
 use_first : (n : ℕ) (u : MonthUse) (bs rest : List ℕ) → length (use_line n u) ≡ 46 → bs ≡ use_line n u ++ (10 ∷ rest) → FirstLine bs (use_line n u) rest

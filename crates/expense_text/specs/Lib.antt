@@ -1,4 +1,3 @@
-pub mod Pages
 pub mod Months
 pub mod Bills
 pub mod Files

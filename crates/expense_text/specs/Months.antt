@@ -1,5 +1,5 @@
 -- The file of a month: its lines in fixed columns, and when bytes are that file.
-use Rattle.std.specs.Prelude.{◌≡◌, ℕ, suc, ◌+◌, ◌≢◌, ◌⊎◌, List, [], ◌∷◌, ◌++◌, length, ℤ, pos, Ok, Err, vec_items, codes, Result, Vec}
+use Rattle.std.specs.Prelude.{◌≡◌, ℕ, suc, ◌+◌, ◌≢◌, ◌⊎◌, List, [], ◌∷◌, ◌++◌, length, ℤ, pos, None, Ok, Err, vec_items, codes, Result, Vec}
 use Rattle.std.specs.declared.alloc.Global.{Global}
 use Rattle.measures.specs.Faults.{fault, on_text_line}
 use Rattle.measures.specs.declared.fault.Cause.TheVariants.{Layout, OutOfMemory}
@@ -75,7 +75,7 @@ pub record WrongAmong (us : List MonthUse) (bs : List ℕ) : Type 0 where
 
 -- a line against the layout, by its number
 abbrev pub layout_fault : ℕ → Fault
-layout_fault line = on_text_line line (fault Layout Text 0)
+layout_fault line = on_text_line line (fault Layout Text None)
 
 -- a file against the layout is refused at its first wrong line: line 1 is no expense, or the lines before the wrong one are those of a month
 abbrev pub AgainstLayout : List ℕ → Fault → Type 0
@@ -84,7 +84,7 @@ AgainstLayout bs f =
 
 -- there was no memory for what is made
 abbrev pub no_memory : Fault
-no_memory = fault OutOfMemory Text 0
+no_memory = fault OutOfMemory Text None
 
 -- what reading a file answers: the month that it is, or the refusal of its first wrong line, or want of memory
 abbrev pub MonthAnswered : List ℕ → Result ExpenseMonth Fault → Type 0

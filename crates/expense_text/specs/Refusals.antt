@@ -1,11 +1,16 @@
 -- The row that a refusal prints.
-use Rattle.std.specs.Prelude.{ℕ, min, List, [], ◌∷◌, ◌++◌, pos, codes}
+use Rattle.std.specs.Prelude.{ℕ, min, List, [], ◌∷◌, ◌++◌, replicate, pos, codes}
+use Rattle.std.specs.Option.{unwrap_or}
 use Rattle.measures.specs.Faults.{number_of, layer_name}
 use Rattle.measures.specs.declared.fault.Fault.{Fault}
-use Rattle.text.specs.Fields.{number_text}
-use Rattle.expense_text.specs.Pages.{field}
+use Rattle.text.specs.Fields.{number_text, written}
 
--- ERR and a space, the text line in 6 columns (blank past 999,999), the refusal's number in 15, the layer in 15, a line feed
+-- w columns with the text at their right end, or blank where it does not fit
+abbrev pub field : ℕ → List ℕ → List ℕ
+field w bs = written bs (replicate w 32)
+
+-- ERR and a space, the text line in 6 columns (0 where there is none, blank past 999,999), the refusal's number in 15, the layer in 15, a line feed
 abbrev pub fault_row : Fault → List ℕ
 fault_row f =
-    codes "ERR " ++ (field 6 (number_text (pos (min f.text_line 1000000))) ++ (field 15 (number_text (pos (number_of f.cause))) ++ (field 15 (layer_name f.layer) ++ (10 ∷ []))))
+    codes "ERR "
+    ++ (field 6 (number_text (pos (min (unwrap_or f.text_line 0) 1000000))) ++ (field 15 (number_text (pos (number_of f.cause))) ++ (field 15 (layer_name f.layer) ++ (10 ∷ []))))

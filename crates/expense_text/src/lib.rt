@@ -4,5 +4,4 @@
 pub mod bill;
 pub mod file;
 pub mod month;
-mod page;
 pub mod refusal;

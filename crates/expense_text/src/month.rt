@@ -1,7 +1,7 @@
 // A month's file: the expense, and each participant's four figures.
 ghost use Rattle.std.specs.Prelude.{◌≡◌, suc, ℤ, MatchOption};
 ghost use Rattle.lines.specs.declared.month_use.MonthUse.{MonthUse};
-ghost use Rattle.expense_text.specs.Months.{AreColumns, IsExpense, IsUse, MonthAnswered, UsesAnswered, layout_fault};
+ghost use Rattle.expense_text.specs.Months.{AreColumns, IsExpense, IsUse, MonthAnswered, UsesAnswered, layout_fault, no_memory};
 
 use lines::month_use::MonthUse;
 use measures::amounts::{Cents, Kilowatts, MegawattHours};
@@ -21,7 +21,14 @@ pub struct ExpenseMonth {
 fn against_layout(line: usize) -> Fault
     ensures { result ≡ layout_fault line }
 {
-    Fault::new(Cause::Layout, Layer::Text, 0).on_text_line(line)
+    Fault::new(Cause::Layout, Layer::Text, None).on_text_line(line)
+}
+
+// The refusal where there is no memory for what is made.
+pub(crate) fn no_memory() -> Fault
+    ensures { result ≡ no_memory }
+{
+    Fault::new(Cause::OutOfMemory, Layer::Text, None)
 }
 
 // The expense that a line states.
@@ -80,16 +87,10 @@ fn read_uses(heap: Global, input: &[u8]) -> Result<Vec<MonthUse>, Fault>
     let mut rest = input;
     while !rest.is_empty() {
         let before = participants.len();
-        let number = before + 2;
-        let Some((line, more)) = split_line(rest) else {
-            return Err(against_layout(number));
-        };
-        let Some(use_of_month) = read_use(line, before) else {
-            return Err(against_layout(number));
-        };
-        if participants.push(use_of_month).is_err() {
-            return Err(Fault::new(Cause::OutOfMemory, Layer::Text, 0));
-        }
+        let refusal = against_layout(before + 2);
+        let (line, more) = split_line(rest).ok_or(refusal)?;
+        let month_use = read_use(line, before).ok_or(refusal)?;
+        participants.push(month_use).map_err(|_| no_memory())?;
         rest = more;
     }
     Ok(participants)
@@ -99,12 +100,9 @@ fn read_uses(heap: Global, input: &[u8]) -> Result<Vec<MonthUse>, Fault>
 pub fn read_month(heap: Global, input: &[u8]) -> Result<ExpenseMonth, Fault>
     ensures { MonthAnswered input.now result }
 {
-    let Some((line, rest)) = split_line(input) else {
-        return Err(against_layout(1));
-    };
-    let Some(expense) = read_expense(line) else {
-        return Err(against_layout(1));
-    };
+    let refusal = against_layout(1);
+    let (line, rest) = split_line(input).ok_or(refusal)?;
+    let expense = read_expense(line).ok_or(refusal)?;
     let participants = read_uses(heap, rest)?;
     Ok(ExpenseMonth {
         expense,

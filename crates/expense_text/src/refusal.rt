@@ -1,20 +1,18 @@
 // The row that a refusal prints.
-ghost use Rattle.std.specs.Prelude.{◌≡◌, IfOk};
+ghost use Rattle.std.specs.Prelude.{◌≡◌, IfOk, string_bytes};
 ghost use Rattle.expense_text.specs.Refusals.{fault_row};
 
-use crate::page::{push, push_name, push_number};
 use measures::fault::Fault;
 use std::alloc::{AllocError, Global};
 
-// ERR, the text line, the refusal's number and the layer.
-pub fn refusal_row(heap: Global, fault: &Fault) -> Result<Vec<u8>, AllocError>
-    ensures { IfOk result (λ page. page.items ≡ fault_row fault.now) }
+// ERR, the text line, the refusal's number and the layer; a text line of more than six digits is left blank.
+pub fn refusal_row(heap: Global, fault: &Fault) -> Result<String, AllocError>
+    ensures { IfOk result (λ page. string_bytes page ≡ fault_row fault.now) }
 {
-    let mut page = Vec::new(heap);
-    push(&mut page, b"ERR ")?;
-    push_number(&mut page, 6, fault.text_line.min(1_000_000) as u32)?;
-    push_number(&mut page, 15, u32::from(fault.cause.number()))?;
-    push_name(&mut page, fault.layer.name())?;
-    push(&mut page, b"\n")?;
-    Ok(page)
+    let number = fault.cause.number();
+    let layer = fault.layer.name();
+    match fault.text_line.unwrap_or(0) {
+        line @ 0..=999_999 => format!(in heap; "ERR {line:>6}{number:>15}{layer:>15}\n"),
+        _ => format!(in heap; "ERR {:>6}{number:>15}{layer:>15}\n", ""),
+    }
 }

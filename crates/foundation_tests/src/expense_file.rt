@@ -62,10 +62,10 @@ PA   2        20        10         0         1
 #[test]
 fn bills_and_refusals_are_printed_byte_for_byte(rt: HostRuntime) -> Result<(), Fail> {
     let bill = bill_of_file(rt.alloc(), &LargestRemainder, FILE)?;
-    assert_eq!(rt; bill.as_slice(), BILL);
+    assert_eq!(rt; bill.as_bytes(), BILL);
     let fault = Fault::new(Cause::SharingLimits, Layer::Share, Some(2)).on_text_line(3);
     let row = refusal_row(rt.alloc(), &fault)?;
-    assert_eq!(rt; row.as_slice(), REFUSAL);
+    assert_eq!(rt; row.as_bytes(), REFUSAL);
     Ok(())
 }
 

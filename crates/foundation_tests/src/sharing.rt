@@ -63,7 +63,11 @@ fn check_not_shared<H: Sharing>(
 ) {
     let answer = rule.share(Cents(pool), weights, to);
     let expected = Refusal::new(13, Layer::Share, place);
-    assert_eq!(rt; answer.err().map(Refusal::from), Some(expected), "{name}: {case}");
+    assert_eq!(rt;
+        answer.err().map(Refusal::from),
+        Some(expected),
+        "{name}: {case}"
+    );
     for amount in to.iter() {
         assert_eq!(rt; amount.0, UNTOUCHED.0, "{name}: {case}");
     }

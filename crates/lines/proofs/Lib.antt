@@ -1,3 +1,2 @@
 pub mod Halves
-pub mod Answered
 pub mod Peaks

@@ -1,5 +1,5 @@
 -- The test of line 22, and the refusal of an expense from the tests of its lines.
-use Rattle.std.proofs.Common.{◌≡◌, ℕ, ◌-◌, ◌/◌, true, false, eqb, List, length, ℤ, pos, negsuc, ◌+ℤ◌, Some, None, Ok, Err, Result, sym, refl, ap, ◌∙◌, subst, arith}
+use Rattle.std.proofs.Common.{◌≡◌, ℕ, ◌-◌, ◌/◌, true, eqb, List, length, ℤ, pos, negsuc, ◌+ℤ◌, None, Ok, Err, Result, sym, refl, ap, ◌∙◌, subst, arith}
 use borrow.Author.Differences.{ints}
 use Rattle.std.proofs.lemmas.Bool.{and_parts}
 use Rattle.measures.specs.declared.amounts.Cents.{Cents}
@@ -8,12 +8,8 @@ use Rattle.rules.specs.Shareable.{shareable_facts}
 use Rattle.rules.proofs.Within.{fair_within}
 use Rattle.rules.specs.Sharing.{amounts, shareable, total, Fair, Within}
 use Rattle.lines.specs.Expense.{peak_pool, volume_pool, expense_in_range, expense_refusal, peaks_shareable, ExpenseShared, ExpenseAnswered}
-use Rattle.lines.specs.Shared.{line_fault, LineShared}
+use Rattle.lines.specs.Shared.{LineShared}
 use Rattle.lines.proofs.Halves.{pools_add}
-
--- the refusals of an expense, first to last
-pub refused_volumes : (e : ℤ) (volumes peaks : List ℤ) (m n : ℕ) → shareable (volume_pool e) volumes m ≡ false → expense_refusal e volumes peaks m n ≡ Some (line_fault 21 volumes m)
-refused_volumes e volumes peaks m n a = simp a refl
 
 -- where line 22 passed its test, its pool can be shared
 peaks_pass : (e : ℤ) (participants : ℕ) (peaks : List ℤ) (places : ℕ) → peaks_shareable e participants peaks places ≡ true → shareable (peak_pool e) peaks places ≡ true

@@ -1,16 +1,11 @@
 -- Right-justified text.
-use Rattle.std.proofs.Common.{◌≡◌, ℕ, ◌+◌, ◌-◌, ◌≤◌, List, [], ◌++◌, length, take, drop, replicate, refl, ap, ◌∙◌, ap₂, append-nil, arith}
+use Rattle.std.proofs.Common.{◌≡◌, ℕ, ◌+◌, ◌-◌, ◌≤◌, List, [], ◌++◌, length, take, drop, replicate, ap, ◌∙◌, ap₂, append-nil, arith}
 use borrow.Rule.Slice.PartMut.{post_of, put_mid}
 use Rattle.std.proofs.lemmas.List.{length-append, length-replicate, length-drop, take_at, drop_all, drop-drop}
-use Rattle.std.proofs.lemmas.Bool.{cond_both, leb-true}
-use Rattle.text.specs.Fields.{fits, right, written}
+use Rattle.text.specs.Fields.{right}
 
 pub length_right : (w : ℕ) (bs : List ℕ) → length bs ≤ w → length (right w bs) ≡ w
 length_right w bs h = length-append (replicate (w - length bs) 32) bs ∙ omega (arith, length-replicate {A = ℕ} (w - length bs) 32)
-
--- a field keeps its columns
-pub length_written : (bs before : List ℕ) → length (written bs before) ≡ length before
-length_written bs before = cond_both (fits bs before) _ _ (λ xs. length xs ≡ length before) (λ t. length_right (length before) bs (leb-true _ _ t)) (λ t. refl)
 
 -- spaces written to the front of a field, and then bs to the rest of it
 pub justified : (xs bs ys zs : List ℕ) → length bs ≤ length xs → ys ≡ replicate (length xs - length bs) 32 → zs ≡ bs → put_mid (length xs - length bs) (length xs - (length xs - length bs)) (ys ++ post_of 0 (length xs - length bs - 0) xs) zs ≡ right (length xs) bs

@@ -1,6 +1,6 @@
 pub mod Printed
 pub mod Justified
+pub mod Laid
 pub mod Sizes
 pub mod Readings
-pub mod Splits
 mod Examples

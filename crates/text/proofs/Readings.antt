@@ -9,7 +9,7 @@ use Rattle.std.specs.Str.{IsTrimAsciiStart}
 use Rattle.std.specs.Str.Parse.{ParsesSigned}
 use Rattle.std.proofs.lemmas.Bool.{both_ways, cond_both}
 use Rattle.std.proofs.lemmas.Bool.Decides.{Decides-eqb, nat_tests}
-use Rattle.std.proofs.lemmas.Fmt.{IsAscii-signed, decimal_by_steps, parse-signed_decimal}
+use Rattle.std.proofs.lemmas.Fmt.{IsAscii-signed, decimal_by_steps, parse-signed_decimal, signed_decimal_injective}
 use Rattle.std.proofs.lemmas.List.{drop_at, length-append, length-replicate, take_at, get_or_append_left}
 use Rattle.std.proofs.lemmas.List.Folds.{prefix_len-append, prefix_len-replicate}
 use Rattle.std.proofs.lemmas.List.Sums.{prefix_len-drop_no}
@@ -36,19 +36,22 @@ number_begins (pos n) h = decimal_begins n (omega arith)
 number_begins (negsuc n) h = record { some = omega arith; dense = refl }
 
 -- so a field without its spaces is the text of its number
-pub stated : (bs text : List ℕ) (z : ℤ) → Field bs z → IsTrimAsciiStart bs text → text ≡ number_text z
-stated bs text z f trimmed =
+unspaced : (bs : List ℕ) (z : ℤ) → Field bs z → drop (prefix_len is_ascii_whitespace bs) bs ≡ number_text z
+unspaced bs z f =
     let k = length bs - length (number_text z) in
     let b = number_begins z (field_small bs z f) in
     let none : prefix_len is_ascii_whitespace (number_text z) ≡ 0 = prefix_len-drop_no is_ascii_whitespace (number_text z) 0 0 b.some b.dense in
     let spaces : prefix_len is_ascii_whitespace (replicate k 32) ≡ k = prefix_len-replicate is_ascii_whitespace k 32 refl in
     let wide : length (replicate {A = ℕ} k 32) ≡ k = length-replicate k 32 in
     let skipped : prefix_len is_ascii_whitespace (replicate k 32 ++ number_text z) ≡ k =
-    prefix_len-append is_ascii_whitespace (replicate k 32) (number_text z) ∙ cond_both _ (length (replicate {A = ℕ} k 32) + prefix_len is_ascii_whitespace (number_text z)) (prefix_len is_ascii_whitespace (replicate k 32)) (λ n. n ≡ k) (λ t. omega arith) (λ t. spaces) in
-    trim_ascii_start_is bs text trimmed
-    ∙ ap (λ (xs : List ℕ). drop (prefix_len is_ascii_whitespace xs) xs) f.printed
+    prefix_len-append is_ascii_whitespace (replicate k 32) (number_text z)
+    ∙ cond_both _ (length (replicate {A = ℕ} k 32) + prefix_len is_ascii_whitespace (number_text z)) (prefix_len is_ascii_whitespace (replicate k 32)) (λ n. n ≡ k) (λ t. omega arith) (λ t. spaces) in
+    ap (λ (xs : List ℕ). drop (prefix_len is_ascii_whitespace xs) xs) f.printed
     ∙ ap (λ (n : ℕ). drop n (replicate k 32 ++ number_text z)) skipped
     ∙ drop_at (replicate k 32) (number_text z) k wide
+
+pub stated : (bs text : List ℕ) (z : ℤ) → Field bs z → IsTrimAsciiStart bs text → text ≡ number_text z
+stated bs text z f trimmed = trim_ascii_start_is bs text trimmed ∙ unspaced bs z f
 
 -- whether the number's text, after spaces, is the whole field
 all_spaces : (xs : List ℕ) → list_all (λ (b : ℕ). b == 32) xs ≡ true → xs ≡ replicate (length xs) 32
@@ -83,6 +86,10 @@ held bs text z (Some x) t e cut all = (λ h. spaced (all_spaces x.now (sym all �
 small : (z : ℤ) → nat_abs z < 10 ^ 18 → mag z < 2 ^ 63
 small (pos n) h = omega arith
 small (negsuc n) h = omega arith
+
+-- a field holds one number at most
+pub field_only : (bs : List ℕ) (y z : ℤ) → Field bs y → Field bs z → y ≡ z
+field_only bs y z f g = signed_decimal_injective y z (small y (field_small bs y f)) (small z (field_small bs z g)) (sym (unspaced bs y f) ∙ unspaced bs z g)
 
 -- the text of a field's number is text, and parses as the number
 pub is_text : (bs text : List ℕ) (z : ℤ) → Field bs z → IsTrimAsciiStart bs text → IsUtf8 text

@@ -1,23 +1,29 @@
-use Rattle.std.proofs.Common.{◌≡◌, ℕ, min, List, [], ◌∷◌, ◌++◌, pos, Ok, vec_items, codes, ap, ◌∙◌, arith}
-use Rattle.measures.specs.Faults.{number_of, layer_name}
+use Rattle.std.proofs.Common.{◌≡◌, ◌^◌, ◌<◌, ◌≤◌, ◌∙◌, min, [], pos, rules}
+use Rattle.std.proofs.lemmas.Result.{IfOk-weaker}
+use Rattle.std.specs.Fmt.{styled_decimal, styled_text}
+use Rattle.std.specs.Option.{unwrap_or}
+use Rattle.measures.specs.Faults.{layer_name, number_of}
 use Rattle.text.specs.Fields.{number_text}
-use Rattle.expense_text.specs.Pages.{field}
-use Rattle.expense_text.proofs.Puts.{put_then, put_as}
+use Rattle.expense_text.specs.Refusals.{field}
+use Rattle.expense_text.proofs.Refused.{cause_field, layer_field, line_field, no_line, row}
 use Rattle.expense_text.proofs.refusal.refusal_row.Goals as goal
 
-pub returns : goal.returns
-returns c =
+pub returns-in-0-to-999999 : goal.returns-in-0-to-999999
+returns-in-0-to-999999 c =
     let f = c.args.fault.now in
-    let line = field 6 (number_text (pos (min f.text_line 1000000))) in
-    let number = field 15 (number_text (pos (number_of f.cause))) in
-    let layer = field 15 (layer_name f.layer) in
-    let start : vec_items c.push.new.page ≡ codes "ERR " = c.in_ok-push.ensures ∙ ap (λ (l : List ℕ). l ++ codes "ERR ") c.new-page.ensures.items in
-    let shown : c.min.result ≡ min f.text_line 1000000 = omega (arith, c.min.ensures) in
-    let at-line = put_as _ _ line _ (ap (λ (n : ℕ). field 6 (number_text (pos n))) shown) c.in_ok-push_number.ensures in
-    let at-number = put_as _ _ number _ (ap (λ (n : ℕ). field 15 (number_text (pos n))) (c.from.ensures ∙ c.number.ensures)) c.in_ok-push_number-2.ensures in
-    let at-layer = put_as _ _ layer _ (ap (field 15) c.name.ensures) c.in_ok-push_name.ensures in
-    let end = vec_items c.push-2.new.page in
-    put_then [] (codes "ERR ") (vec_items c.push.new.page) _ end (Ok tt) start
-    (put_then _ line (vec_items c.push_number.new.page) _ end (Ok tt) at-line
-    (put_then _ number (vec_items c.push_number-2.new.page) _ end (Ok tt) at-number
-    (put_then _ layer (vec_items c.push_name.new.page) (10 ∷ []) end (Ok tt) at-layer c.in_ok-push-2.ensures)))
+    let low : unwrap_or f.text_line 0 < 1000000 = search rules in
+    let small : number_of f.cause < 2 ^ 8 = search rules in
+    let line : styled_decimal c.laid_out.result c.unwrap_or.result ≡ field 6 (number_text (pos (min (unwrap_or f.text_line 0) 1000000))) = rw (c.laid_out.ensures, c.unwrap_or.ensures) (line_field f low) in
+    let number : styled_decimal c.laid_out-in-0-to-999999.result c.number-number.result ≡ field 15 (number_text (pos (number_of f.cause))) = rw (c.laid_out-in-0-to-999999.ensures, c.number-number.ensures) (cause_field (number_of f.cause) small) in
+    let layer : styled_text c.laid_out-in-0-to-999999-2.result c.name-layer.result.now ≡ field 15 (layer_name f.layer) = rw (c.laid_out-in-0-to-999999-2.ensures, c.name-layer.ensures) (layer_field f.layer) in
+    IfOk-weaker c.format.result _ _ (λ s p. p ∙ row f _ _ _ line number layer) c.format.ensures.ok
+
+pub returns-in_default : goal.returns-in_default
+returns-in_default c =
+    let f = c.args.fault.now in
+    let high : 1000000 ≤ unwrap_or f.text_line 0 = search rules in
+    let small : number_of f.cause < 2 ^ 8 = search rules in
+    let line : styled_text c.laid_out-in_default.result [] ≡ field 6 (number_text (pos (min (unwrap_or f.text_line 0) 1000000))) = rw c.laid_out-in_default.ensures (no_line f high) in
+    let number : styled_decimal c.laid_out-in_default-2.result c.number-number.result ≡ field 15 (number_text (pos (number_of f.cause))) = rw (c.laid_out-in_default-2.ensures, c.number-number.ensures) (cause_field (number_of f.cause) small) in
+    let layer : styled_text c.laid_out-in_default-3.result c.name-layer.result.now ≡ field 15 (layer_name f.layer) = rw (c.laid_out-in_default-3.ensures, c.name-layer.ensures) (layer_field f.layer) in
+    IfOk-weaker c.format-in_default.result _ _ (λ s p. p ∙ row f _ _ _ line number layer) c.format-in_default.ensures.ok
