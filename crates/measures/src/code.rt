@@ -2,8 +2,8 @@
 ghost use Rattle.std.specs.Prelude.{◌≡◌};
 ghost use Rattle.measures.specs.Codes.{blank, code_byte, padded, well_formed};
 
-// Any eight bytes, so that a malformed code can be handed over and refused.
-#[derive(Clone, Copy, PartialEq, Eq, Debug)]
+// Any eight bytes, so that a malformed code can be handed over and refused. The default, eight zero bytes, is one.
+#[derive(Clone, Copy, PartialEq, Eq, Default, Debug)]
 pub struct LocationCode {
     pub bytes: [u8; 8],
 }

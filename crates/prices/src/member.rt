@@ -11,20 +11,10 @@ use measures::fault::{Cause, Fault};
 const MOST_MEMBERS: usize = 8;
 
 // A location in a group, with its weight.
-#[derive(Clone, Copy, PartialEq, Eq, Debug)]
+#[derive(Clone, Copy, PartialEq, Eq, Default, Debug)]
 pub struct Member {
     pub code: LocationCode,
     pub weight: i64,
-}
-
-// What stands in a place that no member has taken.
-impl Default for Member {
-    fn default() -> Member {
-        Member {
-            code: LocationCode { bytes: [b' '; 8] },
-            weight: 0,
-        }
-    }
 }
 
 impl Member {

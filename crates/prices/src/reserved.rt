@@ -20,10 +20,9 @@ impl<T, const MOST: usize> Reserved<T, MOST> {
     pub fn new(heap: Global) -> Result<Reserved<T, MOST>, Fault>
         ensures { elim result [ Ok list ↦ vec_items list.items ≡ [] | Err f ↦ f ≡ price_fault OutOfMemory None ] }
     {
-        match Vec::with_capacity(heap, MOST) {
-            Ok(items) => Ok(Reserved { items }),
-            Err(_) => Err(price_fault(Cause::OutOfMemory, None)),
-        }
+        let no_memory = price_fault(Cause::OutOfMemory, None);
+        let items = Vec::with_capacity(heap, MOST).map_err(|_| no_memory)?;
+        Ok(Reserved { items })
     }
 
     pub(crate) fn as_slice(&self) -> &[T]

@@ -151,22 +151,13 @@ impl<'a> Pool<'a> {
         })
     }
 
-    // The size of the pool times a part of the weights.
-    fn product(&self, part: u64) -> u64
-        requires { part ≤ self.now.total }
-        ensures value { result ≡ unsigned_abs self.now.cents.0 * part }
-        ensures fits { result ≤ LARGEST_PRODUCT }
-    {
-        self.cents.0.unsigned_abs() * part
-    }
-
     // The whole cents that fall to a part of the weights.
     fn whole_cents(&self, part: u64) -> u64
         requires { part ≤ self.now.total }
         ensures value { result ≡ unsigned_abs self.now.cents.0 * part / sum (sizes self.now.weights.now) }
         ensures fits { result ≤ LARGEST_PRODUCT }
     {
-        self.product(part) / self.total
+        self.cents.0.unsigned_abs() * part / self.total
     }
 
     // What the whole cents leave of the product.
@@ -174,7 +165,7 @@ impl<'a> Pool<'a> {
         requires { part ≤ self.now.total }
         ensures { result ≡ unsigned_abs self.now.cents.0 * part % sum (sizes self.now.weights.now) }
     {
-        self.product(part) % self.total
+        self.cents.0.unsigned_abs() * part % self.total
     }
 
     // A share of this size, with the sign of the pool.

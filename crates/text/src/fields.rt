@@ -10,7 +10,8 @@ use measures::amounts::Cents;
 // The most columns of a field that is read as a number, so that the number fits its type.
 const MOST_COLUMNS: usize = 18;
 
-// Writes the text right-justified where it fits; where it does not, answers false and leaves the field as it was.
+// Writes the text right-justified where it fits; where it does not, answers false and leaves the field as it was. A yes
+// or no with nothing beside it, so a bool and no Result.
 pub fn write_text(field: &mut [u8], text: &[u8]) -> bool
     ensures answer { result ≡ fits text.now field.old }
     ensures holds { field.new ≡ written text.now field.old }
