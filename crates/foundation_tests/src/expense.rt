@@ -14,43 +14,30 @@ const VOLUMES: [MegawattHours; 3] = [MegawattHours(1_500), MegawattHours(800), M
 
 const PEAKS: [Kilowatts; 3] = [Kilowatts(570), Kilowatts(300), Kilowatts(130)];
 
-#[test]
-fn half_by_volume_and_half_by_peak(rt: HostRuntime) -> Result<(), Fail> {
+// The shares of an expense by volume and by peak.
+fn shares_of(expense: i64) -> Result<([i64; 3], [i64; 3]), Fail> {
     let mut by_volume = [UNTOUCHED; 3];
     let mut by_peak = [UNTOUCHED; 3];
     share_expense(
         &LargestRemainder,
-        Cents(1_000_001),
+        Cents(expense),
         &VOLUMES,
         &PEAKS,
         &mut by_volume,
         &mut by_peak,
     )?;
-    assert_eq!(rt;
-        [by_volume[0].0, by_volume[1].0, by_volume[2].0],
-        [250_000, 133_334, 116_667]
-    );
-    assert_eq!(rt;
-        [by_peak[0].0, by_peak[1].0, by_peak[2].0],
-        [285_000, 150_000, 65_000]
-    );
+    Ok((by_volume.map(|share| share.0), by_peak.map(|share| share.0)))
+}
+
+#[test]
+fn half_by_volume_and_half_by_peak(rt: HostRuntime) -> Result<(), Fail> {
+    let (by_volume, by_peak) = shares_of(1_000_001)?;
+    assert_eq!(rt; by_volume, [250_000, 133_334, 116_667]);
+    assert_eq!(rt; by_peak, [285_000, 150_000, 65_000]);
     // the largest expense
-    share_expense(
-        &LargestRemainder,
-        Cents(4_000_000_000),
-        &VOLUMES,
-        &PEAKS,
-        &mut by_volume,
-        &mut by_peak,
-    )?;
-    assert_eq!(rt;
-        [by_volume[0].0, by_volume[1].0, by_volume[2].0],
-        [1_000_000_000, 533_333_333, 466_666_667]
-    );
-    assert_eq!(rt;
-        [by_peak[0].0, by_peak[1].0, by_peak[2].0],
-        [1_140_000_000, 600_000_000, 260_000_000]
-    );
+    let (by_volume, by_peak) = shares_of(4_000_000_000)?;
+    assert_eq!(rt; by_volume, [1_000_000_000, 533_333_333, 466_666_667]);
+    assert_eq!(rt; by_peak, [1_140_000_000, 600_000_000, 260_000_000]);
     Ok(())
 }
 
@@ -74,16 +61,8 @@ fn check_not_shared(
         &mut by_peak,
     );
     check_refused(rt, case, answer, expected);
-    assert_eq!(rt;
-        [by_volume[0].0, by_volume[1].0, by_volume[2].0],
-        [UNTOUCHED.0; 3],
-        "{case}"
-    );
-    assert_eq!(rt;
-        [by_peak[0].0, by_peak[1].0, by_peak[2].0],
-        [UNTOUCHED.0; 3],
-        "{case}"
-    );
+    assert_eq!(rt; by_volume, [UNTOUCHED; 3], "{case}");
+    assert_eq!(rt; by_peak, [UNTOUCHED; 3], "{case}");
 }
 
 // The refusal of a line's weights.

@@ -8,10 +8,6 @@ use postings::posting::Posting;
 use postings::record::{Record, RecordKind};
 use prices::price::Market;
 
-fn is_day_ahead(market: Market) -> bool {
-    matches!(market, Market::DayAhead)
-}
-
 fn node() -> LocationCode {
     LocationCode {
         bytes: *b"NODE.A  ",
@@ -20,8 +16,8 @@ fn node() -> LocationCode {
 
 #[test]
 fn kinds_of_records(rt: HostRuntime) {
-    assert!(rt; is_day_ahead(RecordKind::DayAheadPurchase.market()));
-    assert!(rt; !is_day_ahead(RecordKind::RealTimePurchase.market()));
+    assert_eq!(rt; RecordKind::DayAheadPurchase.market(), Market::DayAhead);
+    assert_eq!(rt; RecordKind::RealTimePurchase.market(), Market::RealTime);
     assert!(rt; RecordKind::DecrementBid.is_load());
     assert!(rt; RecordKind::ExternalSale.is_load());
     assert!(rt; !RecordKind::IncrementOffer.is_load());

@@ -13,7 +13,7 @@ const UNTOUCHED: Cents = Cents(7);
 fn shares<H: Sharing>(rule: &H, pool: i64, weights: [i64; 3]) -> Result<[i64; 3], Fail> {
     let mut to = [UNTOUCHED; 3];
     rule.share(Cents(pool), &weights, &mut to)?;
-    Ok([to[0].0, to[1].0, to[2].0])
+    Ok(to.map(|share| share.0))
 }
 
 // Checks what each rule makes of a pool.
@@ -68,8 +68,8 @@ fn check_not_shared<H: Sharing>(
         Some(expected),
         "{name}: {case}"
     );
-    for amount in to.iter() {
-        assert_eq!(rt; amount.0, UNTOUCHED.0, "{name}: {case}");
+    for amount in to {
+        assert_eq!(rt; *amount, UNTOUCHED, "{name}: {case}");
     }
 }
 

@@ -119,7 +119,8 @@ fn check_peaks(line: &PeakLine, participants: usize, places: usize) -> Result<()
     check_line(line, places)
 }
 
-// Shares an expense by month volumes and by peaks: both lists are written, or neither.
+// Shares an expense by month volumes and by peaks: both lists are written, or neither. The four lists are the caller's,
+// and those of the two lines may differ in length, which is refused.
 pub fn share_expense<H: Sharing>(
     rule: &H,
     expense: Cents,

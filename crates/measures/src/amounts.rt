@@ -26,6 +26,7 @@ pub struct MegawattHours(pub i64);
 #[derive(Clone, Copy, PartialEq, Eq, Debug)]
 pub struct Kilowatts(pub i64);
 
+// Operators are written out, since no derive of the library gives them.
 impl Add<Cents> for Cents {
     type Output = Cents;
 

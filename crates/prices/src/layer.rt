@@ -88,6 +88,7 @@ impl<S: PriceSource> GroupLayer<S> {
     fn quote(&self, code: &LocationCode, market: Market) -> Option<Price>
         ensures { result ≡ layer_quote (S.quote self.now.below) (groups_of self.now.groups) code.now market }
     {
+        // One line in each source: a function of all that takes the rest as a closure is no plainer.
         if !code.is_well_formed() {
             return None;
         }

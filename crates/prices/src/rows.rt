@@ -7,7 +7,7 @@ use crate::price::{Market, Price};
 use crate::row::PriceRow;
 use measures::code::LocationCode;
 
-// A row's price in a market.
+// A row's price in a market: a choice of a field, which is no conversion of the market.
 fn price_in(row: &PriceRow, market: Market) -> Option<Price>
     ensures { result ≡ price_of (components_in row.now market) }
 {
@@ -28,6 +28,7 @@ fn find<'a>(rows: &'a [PriceRow], code: &LocationCode) -> Option<&'a PriceRow>
 pub(crate) fn quote_in(rows: &[PriceRow], code: &LocationCode, market: Market) -> Option<Price>
     ensures { result ≡ rows_quote rows.now code.now market }
 {
+    // One line in each source: a function of all that takes the rest as a closure is no plainer.
     if !code.is_well_formed() {
         return None;
     }

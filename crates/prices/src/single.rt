@@ -60,9 +60,11 @@ impl PriceSource for SinglePrice {
     ghost alike = { λ s c d m p q e f. guarded_alike (λ (x : Price). x.components.energy) (well_formed c) (well_formed d) (price_in s m) p q e f };
 
     fn price(&self, code: &LocationCode, market: Market) -> Option<Price> {
+        // One line in each source: a function of all that takes the rest as a closure is no plainer.
         if !code.is_well_formed() {
             return None;
         }
+        // A choice of a field, which is no conversion of the market.
         match market {
             Market::DayAhead => Some(self.day_ahead),
             Market::RealTime => Some(self.real_time),

@@ -14,6 +14,7 @@ pub trait PriceSource {
     // The price of a location in a market, where it has one.
     ghost quote: { Self → LocationCode → Market → Option Price };
 
+    // Code and market are two arguments: a struct would be made for each question.
     fn price(&self, code: &LocationCode, market: Market) -> Option<Price>
         ensures { result ≡ quote self.now code.now market };
 

@@ -20,7 +20,8 @@ pub trait Sharing {
     // The shares of a pool of cents by a list of weights.
     ghost shares: { Self → ℤ → List ℤ → List ℤ };
 
-    // Writes the shares to the list handed over, or refuses and leaves it as it was.
+    // Writes the shares to the list handed over, or refuses and leaves it as it was. Pool and weights are two arguments, as
+    // callers have them: each call would make a struct of them.
     fn share(&self, pool: Cents, weights: &[i64], to: &mut [Cents]) -> Result<(), Fault>
         ensures { Shared (shares self.now) pool.0 weights.now to.old to.new result };
 
