@@ -3,7 +3,6 @@ pub mod Unbroken
 pub mod Uses
 mod Examples
 pub mod Refused
-pub mod Sums
 pub mod Rows
 pub mod Shown
 pub mod Weights

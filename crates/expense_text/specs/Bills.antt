@@ -32,9 +32,16 @@ two_rows n x y = charge_row n 21 x ++ charge_row n 22 y
 abbrev pub participant_rows : List Cents → List Cents → List ℕ
 participant_rows xs ys = flat_map (λ p. two_rows (p.0 + 1) p.1.0.0 p.1.1.0) (enumerate_from 0 (zip xs ys))
 
+-- the sum of a line, and the sum of both
+abbrev pub line_sum_row : ℕ → ℤ → List ℕ
+line_sum_row line amount = codes "SUM " ++ charge_columns line amount
+
+abbrev pub whole_sum_row : ℤ → List ℕ
+whole_sum_row amount = codes "SUM       " ++ amount_columns amount
+
 -- the sums of both lines, each and together
 abbrev pub sum_rows : ℤ → ℤ → List ℕ
-sum_rows a b = codes "SUM " ++ (charge_columns 21 a ++ (codes "SUM " ++ (charge_columns 22 b ++ (codes "SUM       " ++ amount_columns (a +ℤ b)))))
+sum_rows a b = line_sum_row 21 a ++ (line_sum_row 22 b ++ whole_sum_row (a +ℤ b))
 
 -- the first row: what each column has
 abbrev pub bill_header : List ℕ

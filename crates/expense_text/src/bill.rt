@@ -2,7 +2,7 @@
 ghost use Rattle.std.specs.Prelude.{◌≡◌, ◌⊎◌, ◌++◌, None, Some, MatchResult, map, OnOk, IfOk, string_bytes};
 ghost use Rattle.lines.specs.Expense.{ExpenseShared, peak_pool, volume_pool};
 ghost use Rattle.rules.specs.Sharing.{amounts, total};
-ghost use Rattle.expense_text.specs.Bills.{BillAnswered, bill_refusal, bill_text, charge_row, participant_rows, peak_weight, peaks_of, sum_rows, volume_weight, volumes_of};
+ghost use Rattle.expense_text.specs.Bills.{BillAnswered, bill_refusal, bill_text, charge_row, line_sum_row, participant_rows, peak_weight, peaks_of, sum_rows, volume_weight, volumes_of, whole_sum_row};
 ghost use Rattle.expense_text.specs.Months.{no_memory};
 
 use crate::month::{ExpenseMonth, no_memory};
@@ -29,19 +29,29 @@ fn write_charge(
     writeln!(page, "{participant:>4}{line:>6}{amount:>15}")
 }
 
+// The row of a line's sum.
+fn write_line_sum(page: &mut String, line: u8, amount: Cents) -> Result<(), AllocError>
+    ensures { OnOk result (string_bytes page.new ≡ string_bytes page.old ++ line_sum_row line amount.0) }
+{
+    let amount = Dollars(amount);
+    writeln!(page, "SUM {line:>6}{amount:>15}")
+}
+
+// The row of the sum of both lines.
+fn write_whole_sum(page: &mut String, amount: Cents) -> Result<(), AllocError>
+    ensures { OnOk result (string_bytes page.new ≡ string_bytes page.old ++ whole_sum_row amount.0) }
+{
+    let amount = Dollars(amount);
+    writeln!(page, "SUM       {amount:>15}")
+}
+
 // The sums of the two lines, and of both.
 fn write_sums(page: &mut String, expense: Cents) -> Result<(), AllocError>
     ensures { OnOk result (string_bytes page.new ≡ string_bytes page.old ++ sum_rows (volume_pool expense.0) (peak_pool expense.0)) }
 {
-    let by_volume = Dollars(volume_pool(expense));
-    let by_peak = Dollars(peak_pool(expense));
-    let both = Dollars(expense);
-    write!(
-        page,
-        "SUM {:>6}{by_volume:>15}\nSUM {:>6}{by_peak:>15}\nSUM       {both:>15}\n",
-        VolumeLine::NUMBER,
-        PeakLine::NUMBER
-    )
+    write_line_sum(page, VolumeLine::NUMBER, volume_pool(expense))?;
+    write_line_sum(page, PeakLine::NUMBER, peak_pool(expense))?;
+    write_whole_sum(page, expense)
 }
 
 // Each participant's weight in line 21 and in line 22.
