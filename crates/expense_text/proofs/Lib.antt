@@ -7,3 +7,4 @@ pub mod Rows
 pub mod Shown
 pub mod Weights
 pub mod Filed
+pub mod Fitted

@@ -16,7 +16,7 @@ use Rattle.text.proofs.Laid.{number_laid, text_laid}
 use Rattle.expense_text.specs.Refusals.{field, fault_row}
 
 -- a text that fits is at the right end of its columns
-shown : (w : ℕ) (bs : List ℕ) → length bs ≤ w → right w bs ≡ field w bs
+pub shown : (w : ℕ) (bs : List ℕ) → length bs ≤ w → right w bs ≡ field w bs
 shown w bs h =
     let wide : length (replicate {A = ℕ} w 32) ≡ w = length-replicate w 32 in
     rw (wide, le-leb (length bs) w h) refl

@@ -1,6 +1,5 @@
 -- The bill of a month's expense: every byte of it.
-use Rattle.std.specs.Prelude.{◌≡◌, ℕ, ◌+◌, ◌<◌, ◌≤◌, ◌⊎◌, List, [], ◌∷◌, ◌++◌, map, length, ℤ, pos, ◌+ℤ◌, Some, None, Ok, Err, string_bytes, codes, Option, Result, String, slice_index_or}
-use Rattle.std.specs.List.{enumerate_from, flat_map, zip}
+use Rattle.std.specs.Prelude.{◌≡◌, ℕ, suc, ◌<◌, ◌≤◌, ◌⊎◌, List, [], ◌∷◌, ◌++◌, map, length, ℤ, pos, ◌+ℤ◌, Some, None, Ok, Err, string_bytes, codes, Option, Result, String, slice_index_or}
 use Rattle.std.specs.declared.alloc.Global.{Global}
 use Rattle.measures.specs.declared.amounts.Cents.{Cents}
 use Rattle.measures.specs.declared.amounts.Kilowatts.{Kilowatts}
@@ -9,39 +8,31 @@ use Rattle.measures.specs.declared.fault.Fault.{Fault}
 use Rattle.rules.specs.Sharing.{amounts, total}
 use Rattle.lines.specs.Expense.{ExpenseShared, expense_refusal, peak_pool, volume_pool}
 use Rattle.lines.specs.declared.month_use.MonthUse.{MonthUse}
-use Rattle.text.specs.Fields.{dollars_text, number_text, right}
+use Rattle.text.specs.Fields.{dollars_text, number_text}
 use Rattle.expense_text.specs.Months.{no_memory}
+use Rattle.expense_text.specs.Refusals.{field}
 
 -- an amount in dollars in 15 columns, and a line feed
 abbrev pub amount_columns : ℤ → List ℕ
-amount_columns amount = right 15 (dollars_text amount) ++ (10 ∷ [])
+amount_columns amount = field 15 (dollars_text amount) ++ (10 ∷ [])
 
 -- a line's number in 6 columns, and its amount
-abbrev pub charge_columns : ℕ → ℤ → List ℕ
-charge_columns line amount = right 6 (number_text (pos line)) ++ amount_columns amount
+abbrev pub charge_columns : ℤ → ℤ → List ℕ
+charge_columns line amount = field 6 (number_text line) ++ amount_columns amount
 
--- a participant's row in a line, after its number in 4 columns
-abbrev pub charge_row : ℕ → ℕ → ℤ → List ℕ
-charge_row n line amount = right 4 (number_text (pos n)) ++ charge_columns line amount
-
--- a participant's two rows
+-- a participant's two rows, each after its number in 4 columns
 abbrev pub two_rows : ℕ → ℤ → ℤ → List ℕ
-two_rows n x y = charge_row n 21 x ++ charge_row n 22 y
+two_rows n x y = field 4 (number_text (pos n)) ++ (charge_columns (pos 21) x ++ (field 4 (number_text (pos n)) ++ charge_columns (pos 22) y))
 
--- those of all participants, numbered from 1
-abbrev pub participant_rows : List Cents → List Cents → List ℕ
-participant_rows xs ys = flat_map (λ p. two_rows (p.0 + 1) p.1.0.0 p.1.1.0) (enumerate_from 0 (zip xs ys))
-
--- the sum of a line, and the sum of both
-abbrev pub line_sum_row : ℕ → ℤ → List ℕ
-line_sum_row line amount = codes "SUM " ++ charge_columns line amount
-
-abbrev pub whole_sum_row : ℤ → List ℕ
-whole_sum_row amount = codes "SUM       " ++ amount_columns amount
+-- those of all participants, numbered on from n
+abbrev pub participant_rows : ℕ → List Cents → List Cents → List ℕ
+participant_rows n [] ys = []
+participant_rows n (x ∷ xs) [] = []
+participant_rows n (x ∷ xs) (y ∷ ys) = two_rows n x.0 y.0 ++ participant_rows (suc n) xs ys
 
 -- the sums of both lines, each and together
 abbrev pub sum_rows : ℤ → ℤ → List ℕ
-sum_rows a b = line_sum_row 21 a ++ (line_sum_row 22 b ++ whole_sum_row (a +ℤ b))
+sum_rows a b = codes "SUM " ++ (charge_columns (pos 21) a ++ (codes "SUM " ++ (charge_columns (pos 22) b ++ (codes "SUM       " ++ amount_columns (a +ℤ b)))))
 
 -- the first row: what each column has
 abbrev pub bill_header : List ℕ
@@ -49,7 +40,7 @@ bill_header = codes "PART  LINE         AMOUNT\n"
 
 -- the whole bill: header, participants, sums of what the participants' rows show
 abbrev pub bill_text : List Cents → List Cents → List ℕ
-bill_text xs ys = bill_header ++ (participant_rows xs ys ++ sum_rows (total (amounts xs)) (total (amounts ys)))
+bill_text xs ys = bill_header ++ (participant_rows 1 xs ys ++ sum_rows (total (amounts xs)) (total (amounts ys)))
 
 -- a participant's weight in line 21: the month's load plus generation
 abbrev pub volume_weight : MonthUse → MegawattHours

@@ -2,7 +2,8 @@
 ghost use Rattle.std.specs.Prelude.{◌≡◌, ◌⊎◌, ◌++◌, None, Some, MatchResult, map, OnOk, IfOk, string_bytes};
 ghost use Rattle.lines.specs.Expense.{ExpenseShared, peak_pool, volume_pool};
 ghost use Rattle.rules.specs.Sharing.{amounts, total};
-ghost use Rattle.expense_text.specs.Bills.{BillAnswered, bill_refusal, bill_text, charge_row, line_sum_row, participant_rows, peak_weight, peaks_of, sum_rows, volume_weight, volumes_of, whole_sum_row};
+ghost use Rattle.expense_text.specs.Bills.{BillAnswered, bill_refusal, peak_weight, peaks_of, volume_weight, volumes_of};
+ghost use Rattle.expense_text.specs.Layouts.{laid_bill, laid_line_sum, laid_row, laid_rows, laid_sums, laid_whole_sum};
 ghost use Rattle.expense_text.specs.Months.{no_memory};
 
 use crate::month::{ExpenseMonth, no_memory};
@@ -23,7 +24,7 @@ fn write_charge(
     line: u8,
     amount: Cents,
 ) -> Result<(), AllocError>
-    ensures { OnOk result (string_bytes page.new ≡ string_bytes page.old ++ charge_row participant line amount.0) }
+    ensures { OnOk result (string_bytes page.new ≡ string_bytes page.old ++ laid_row participant line amount.0) }
 {
     let amount = Dollars(amount);
     writeln!(page, "{participant:>4}{line:>6}{amount:>15}")
@@ -31,7 +32,7 @@ fn write_charge(
 
 // The row of a line's sum.
 fn write_line_sum(page: &mut String, line: u8, amount: Cents) -> Result<(), AllocError>
-    ensures { OnOk result (string_bytes page.new ≡ string_bytes page.old ++ line_sum_row line amount.0) }
+    ensures { OnOk result (string_bytes page.new ≡ string_bytes page.old ++ laid_line_sum line amount.0) }
 {
     let amount = Dollars(amount);
     writeln!(page, "SUM {line:>6}{amount:>15}")
@@ -39,7 +40,7 @@ fn write_line_sum(page: &mut String, line: u8, amount: Cents) -> Result<(), Allo
 
 // The row of the sum of both lines.
 fn write_whole_sum(page: &mut String, amount: Cents) -> Result<(), AllocError>
-    ensures { OnOk result (string_bytes page.new ≡ string_bytes page.old ++ whole_sum_row amount.0) }
+    ensures { OnOk result (string_bytes page.new ≡ string_bytes page.old ++ laid_whole_sum amount.0) }
 {
     let amount = Dollars(amount);
     writeln!(page, "SUM       {amount:>15}")
@@ -47,14 +48,14 @@ fn write_whole_sum(page: &mut String, amount: Cents) -> Result<(), AllocError>
 
 // The sums of the two lines, and of both.
 fn write_sums(page: &mut String, expense: Cents) -> Result<(), AllocError>
-    ensures { OnOk result (string_bytes page.new ≡ string_bytes page.old ++ sum_rows (volume_pool expense.0) (peak_pool expense.0)) }
+    ensures { OnOk result (string_bytes page.new ≡ string_bytes page.old ++ laid_sums (volume_pool expense.0) (peak_pool expense.0)) }
 {
     write_line_sum(page, VolumeLine::NUMBER, volume_pool(expense))?;
     write_line_sum(page, PeakLine::NUMBER, peak_pool(expense))?;
     write_whole_sum(page, expense)
 }
 
-// Each participant's weight in line 21 and in line 22.
+// Each participant's weight in line 21 and in line 22. Two lists, as the expense's sharing takes them apart.
 #[derive(Drop)]
 struct UseWeights {
     volumes: Vec<MegawattHours>,
@@ -74,7 +75,8 @@ impl UseWeights {
     }
 }
 
-// Each participant's shares of an expense; those of a line add up to its pool.
+// Each participant's shares of an expense; those of a line add up to its pool. Two lists, as the expense's sharing writes
+// them apart.
 #[derive(Drop)]
 struct ExpenseShares {
     expense: Cents,
@@ -114,7 +116,7 @@ impl ExpenseShares {
 
     // The rows of all participants.
     fn write_participants(&self, page: &mut String) -> Result<(), AllocError>
-        ensures { OnOk result (string_bytes page.new ≡ string_bytes page.old ++ participant_rows self.now.by_volume.items self.now.by_peak.items) }
+        ensures { OnOk result (string_bytes page.new ≡ string_bytes page.old ++ laid_rows self.now.by_volume.items self.now.by_peak.items) }
     {
         for (i, (by_volume, by_peak)) in self.by_volume.iter().zip(&self.by_peak).enumerate() {
             write_charge(page, i + 1, VolumeLine::NUMBER, *by_volume)?;
@@ -125,7 +127,7 @@ impl ExpenseShares {
 
     // The whole bill; the shares add up to their pools, so the pools are the sums.
     fn bill(&self, heap: Global) -> Result<String, AllocError>
-        ensures { IfOk result (λ page. string_bytes page ≡ bill_text self.now.by_volume.items self.now.by_peak.items) }
+        ensures { IfOk result (λ page. string_bytes page ≡ laid_bill self.now.by_volume.items self.now.by_peak.items) }
     {
         let mut page = String::from_str(heap, "PART  LINE         AMOUNT\n")?;
         self.write_participants(&mut page)?;
@@ -143,6 +145,7 @@ pub fn expense_bill<H: Sharing>(
     ensures { BillAnswered (H.Sharing.shares rule.now) month.now.expense.0 month.now.participants.items result }
 {
     let shares = ExpenseShares::by_use(heap, rule, month.expense, &month.participants)?;
+    // What `map_err` answers is not handed on as it is: the proof of that did not close.
     let page = shares.bill(heap).map_err(|_| no_memory())?;
     Ok(page)
 }

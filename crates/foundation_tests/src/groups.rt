@@ -207,6 +207,6 @@ fn a_default_run_has_its_source_and_the_default_rules(rt: HostRuntime) -> Result
     assert_eq!(rt; run.rounding.round(Thousandths(2_500)).0, 3);
     let mut to = [Cents(0); 3];
     run.sharing.share(Cents(100), &[1, 1, 1], &mut to)?;
-    assert_eq!(rt; [to[0].0, to[1].0, to[2].0], [34, 33, 33]);
+    assert_eq!(rt; to.map(|share| share.0), [34, 33, 33]);
     Ok(())
 }

@@ -66,7 +66,13 @@ fn a_revision_keeps_the_rest(rt: HostRuntime) {
     let revised = bid.revised(KilowattHours(41));
     assert_eq!(rt; revised.quantity(), KilowattHours(41));
     assert_eq!(rt; revised.participant, 3);
-    assert_eq!(rt; revised.location, node());
+    assert_eq!(rt;
+        revised,
+        Record {
+            quantity: KilowattHours(41),
+            ..bid
+        }
+    );
     let sale = Bilateral {
         kind: BilateralKind::RealTimeLoad,
         buyer: 1,
@@ -78,4 +84,11 @@ fn a_revision_keeps_the_rest(rt: HostRuntime) {
     assert_eq!(rt; revised.quantity(), KilowattHours(0));
     assert_eq!(rt; revised.buyer, 1);
     assert_eq!(rt; revised.seller, 2);
+    assert_eq!(rt;
+        revised,
+        Bilateral {
+            quantity: KilowattHours(0),
+            ..sale
+        }
+    );
 }

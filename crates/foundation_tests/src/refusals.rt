@@ -13,7 +13,8 @@ pub struct Refusal {
 }
 
 impl Refusal {
-    // A refusal that names neither a charge line nor a text line; place 0 stands for none.
+    // A refusal that names neither a charge line nor a text line. What is expected stands in the numbers that a user reads,
+    // as a printed refusal has them: place 0 for none.
     pub fn new(number: u8, layer: Layer, place: usize) -> Refusal {
         Refusal {
             number,

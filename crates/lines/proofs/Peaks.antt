@@ -1,5 +1,5 @@
 -- The test of line 22, and the refusal of an expense from the tests of its lines.
-use Rattle.std.proofs.Common.{◌≡◌, ℕ, ◌-◌, ◌/◌, true, eqb, List, length, ℤ, pos, negsuc, ◌+ℤ◌, None, Ok, Err, Result, sym, refl, ap, ◌∙◌, subst, arith}
+use Rattle.std.proofs.Common.{◌≤◌, ◌≡◌, ℕ, ◌-◌, ◌/◌, true, eqb, List, length, ℤ, pos, negsuc, ◌+ℤ◌, None, Ok, Err, Result, sym, refl, ap, ◌∙◌, subst, arith}
 use borrow.Author.Differences.{ints}
 use Rattle.std.proofs.lemmas.Bool.{and_parts}
 use Rattle.measures.specs.declared.amounts.Cents.{Cents}
@@ -52,3 +52,9 @@ expense_done rule e volumes peaks before21 after21 before22 after22 (Err f) a b 
 -- an expense that is not refused is in range
 pub accepted_range : (e : ℤ) (volumes peaks : List ℤ) (m n : ℕ) → expense_refusal e volumes peaks m n ≡ None → expense_in_range e ≡ true
 accepted_range e volumes peaks m n h = grind arith
+
+-- and its participants are at most 64
+pub accepted_few : (e : ℤ) (volumes peaks : List ℤ) (m n : ℕ) → expense_refusal e volumes peaks m n ≡ None → length volumes ≤ 64
+accepted_few e volumes peaks m n h =
+    let can : shareable (volume_pool e) volumes m ≡ true = grind arith in
+    (shareable_facts (volume_pool e) volumes m can).few

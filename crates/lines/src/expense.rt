@@ -59,6 +59,7 @@ pub type VolumeLine<'a> = ExpenseLine<'a, MegawattHours>;
 // Line 22: the rest, by each participant's peak load plus peak generation.
 pub type PeakLine<'a> = ExpenseLine<'a, Kilowatts>;
 
+// An impl for each number: the constant of one for all units could be named in no clause, so nothing would pin it.
 impl<'a> ChargeLine for ExpenseLine<'a, MegawattHours> {
     const NUMBER: u8 = 21;
 

@@ -79,5 +79,6 @@ pub fn share_line<L: SharedLine, H: Sharing>(
     let units = units_of(line)?;
     rule.share(line.pool(), &units, to)
         .map_err(|refusal| refusal.on_charge_line(L::line_number()))?;
+    // What `map_err` answers is not handed on as it is: the proof of that did not close.
     Ok(())
 }

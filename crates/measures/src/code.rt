@@ -1,8 +1,9 @@
 // Location codes: eight bytes, one to eight code bytes and then spaces.
 ghost use Rattle.std.specs.Prelude.{◌≡◌};
-ghost use Rattle.measures.specs.Codes.{blank, code_byte, padded, well_formed};
+ghost use Rattle.measures.specs.Codes.{blank, code_byte, padded, same_code, well_formed};
 
-// Any eight bytes, so that a malformed code can be handed over and refused. The default, eight zero bytes, is one.
+// Any eight bytes, so that a malformed code can be handed over and refused. There are always eight, so no length stands
+// beside them. The default, eight zero bytes, is malformed.
 #[derive(Clone, Copy, PartialEq, Eq, Default, Debug)]
 pub struct LocationCode {
     pub bytes: [u8; 8],
@@ -14,7 +15,8 @@ fn is_code_byte(byte: u8) -> bool
     matches!(byte, b'A'..=b'Z' | b'0'..=b'9' | b'.' | b'-')
 }
 
-fn is_blank(bytes: &[u8]) -> bool
+// Whether there is nothing but spaces.
+pub fn is_blank(bytes: &[u8]) -> bool
     ensures { result ≡ blank bytes.now }
 {
     bytes.iter().all(|byte| *byte == b' ')
@@ -39,5 +41,12 @@ impl LocationCode {
             [] => false,
             [first, rest @ ..] => is_code_byte(*first) && is_padded(rest),
         }
+    }
+
+    // What `==` answers, which contracts call `same_code`.
+    pub fn same(&self, other: &LocationCode) -> bool
+        ensures { result ≡ same_code self.now other.now }
+    {
+        self == other
     }
 }

@@ -27,7 +27,7 @@ impl BilateralKind {
 }
 
 // A bilateral as it is handed over: participants and quantity may be out of range, the code malformed.
-#[derive(Clone, Copy)]
+#[derive(Clone, Copy, PartialEq, Eq, Debug)]
 pub struct Bilateral {
     pub kind: BilateralKind,
     pub buyer: i64,

@@ -53,7 +53,7 @@ impl RecordKind {
 }
 
 // A record as it is handed over: participant and quantity may be out of range, the code malformed.
-#[derive(Clone, Copy)]
+#[derive(Clone, Copy, PartialEq, Eq, Debug)]
 pub struct Record {
     pub kind: RecordKind,
     pub participant: i64,

@@ -16,7 +16,6 @@ use crate::group::Group;
 use crate::groups::GroupTable;
 use crate::member::{Member, Members};
 use crate::price::{Market, Price};
-use crate::row::Components;
 use crate::source::PriceSource;
 use crate::sums::Sums;
 use measures::code::LocationCode;
@@ -52,11 +51,7 @@ fn mean_price<S: PriceSource>(below: &S, members: &Members, market: Market) -> O
 {
     let sums = sums_over(below, members, market)?;
     let first = below.price(&members.as_slice()[0].code, market)?;
-    Price::new(Components {
-        energy: first.energy(),
-        congestion: sums.congestion_mean(),
-        loss: sums.loss_mean(),
-    })
+    Price::new(sums.components(first.energy()))
 }
 
 // The index of the first member with no price below.

@@ -12,7 +12,7 @@ pub struct Components {
     pub loss: i64,
 }
 
-// The components of one location in both markets.
+// The components of one location in both markets. Two fields, which callers fill by name.
 #[derive(Clone, Copy, PartialEq, Eq, Debug)]
 pub struct PriceRow {
     pub code: LocationCode,

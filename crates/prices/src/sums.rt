@@ -5,6 +5,7 @@ ghost use Rattle.prices.specs.Members.{weight_in_range};
 
 use crate::member::Member;
 use crate::price::Price;
+use crate::row::Components;
 
 // The sum of the weights, and the sums of weight × component, whose size the weights bound.
 #[derive(Clone, Copy)]
@@ -34,6 +35,7 @@ fn nearest(x: i64, weight: u64) -> i64
     requires sum { unsigned_abs x ≤ 800000000 }
     ensures { result ≡ nearest_mean x weight }
 {
+    // The sign is put back here: a function of all crates could not ask that the size fits.
     let size = ((2 * x.unsigned_abs() + weight) / (2 * weight)) as i64;
     if x < 0 { -size } else { size }
 }
@@ -67,19 +69,17 @@ impl Sums {
         }
     }
 
-    // The weighted mean of the congestion components.
-    pub(crate) fn congestion_mean(&self) -> i64
+    // The components of a group's price: this energy, and the weighted means of the other two.
+    pub(crate) fn components(&self, energy: i64) -> Components
         requires { 0 < self.now.weight }
-        ensures { result ≡ nearest_mean self.now.congestion self.now.weight }
+        ensures energy { result.energy ≡ energy }
+        ensures congestion { result.congestion ≡ nearest_mean self.now.congestion self.now.weight }
+        ensures loss { result.loss ≡ nearest_mean self.now.loss self.now.weight }
     {
-        nearest(self.congestion, self.weight)
-    }
-
-    // The weighted mean of the loss components.
-    pub(crate) fn loss_mean(&self) -> i64
-        requires { 0 < self.now.weight }
-        ensures { result ≡ nearest_mean self.now.loss self.now.weight }
-    {
-        nearest(self.loss, self.weight)
+        Components {
+            energy,
+            congestion: nearest(self.congestion, self.weight),
+            loss: nearest(self.loss, self.weight),
+        }
     }
 }

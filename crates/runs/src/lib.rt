@@ -30,7 +30,8 @@ pub fn default_run<S>(source: S) -> Run<S>
     }
 }
 
-// The worked examples of rounding, sharing and means hold of the definitions that the contracts cite.
+// The worked examples of rounding, sharing and means hold of the definitions that the contracts cite. It answers `true`
+// and nothing else, as its contract says; a caller may rely on either.
 pub fn worked_examples() -> bool
     ensures answer { result ≡ true }
     ensures examples { WorkedExamples }

@@ -1,11 +1,11 @@
 // Fields: bytes in fixed columns, right-justified after spaces.
-ghost use Rattle.std.specs.Prelude.{◌≡◌, ◌≤◌, ◌==◌, true, length, ℤ, Some, Decides};
-ghost use Rattle.std.specs.List.{list_all};
+ghost use Rattle.std.specs.Prelude.{◌≡◌, ◌≤◌, true, length, ℤ, Some, Decides};
 ghost use Rattle.text.specs.Fields.{Field, Reads, dollars_text, fits, number_text, right, written};
 
 use crate::dollars::Dollars;
 use itoa::Buffer;
 use measures::amounts::Cents;
+use measures::code::is_blank;
 
 // The most columns of a field that is read as a number, so that the number fits its type.
 const MOST_COLUMNS: usize = 18;
@@ -50,13 +50,6 @@ fn candidate(field: &[u8]) -> Option<i64>
 {
     let text = str::from_utf8(field.trim_ascii_start()).ok()?;
     text.parse().ok()
-}
-
-// Whether there is nothing but spaces.
-fn is_blank(bytes: &[u8]) -> bool
-    ensures { result ≡ list_all (λ byte. byte == 32) bytes.now }
-{
-    bytes.iter().all(|byte| *byte == b' ')
 }
 
 // Whether the field is the number's text, right-justified.

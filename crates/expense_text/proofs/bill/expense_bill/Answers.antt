@@ -1,6 +1,8 @@
-use Rattle.std.proofs.Common.{◌≡◌, string_bytes, rules}
-use Rattle.lines.proofs.Peaks.{accepted_range}
-use Rattle.expense_text.specs.Bills.{bill_text, peaks_of, volumes_of}
+use Rattle.std.proofs.Common.{◌≡◌, ◌∙◌, string_bytes, rules}
+use Rattle.lines.proofs.Peaks.{accepted_few, accepted_range}
+use Rattle.expense_text.specs.Bills.{peaks_of, volumes_of}
+use Rattle.expense_text.specs.Layouts.{laid_bill}
+use Rattle.expense_text.proofs.Fitted.{fitted_shares}
 use Rattle.expense_text.proofs.Shown.{peaks_shown, sums_shown, volumes_shown}
 use Rattle.expense_text.proofs.bill.expense_bill.Goals as goal
 
@@ -11,15 +13,19 @@ returns g c =
     let us = c.deref.result.now in
     let h = c.in_ok-shares.ensures in
     let range = accepted_range e (volumes_of us) (peaks_of us) _ _ h.1 in
-    let printed : string_bytes c.in_ok-page.page ≡ bill_text shares.by_volume.items shares.by_peak.items = search rules in
+    let few = accepted_few e (volumes_of us) (peaks_of us) _ _ h.1 in
+    let laid : string_bytes c.in_ok-page.page ≡ laid_bill shares.by_volume.items shares.by_peak.items = search rules in
+    let volumes = volumes_shown e shares.by_volume.items range h.2.volume_within in
+    let peaks = peaks_shown e shares.by_peak.items range h.2.peak_within in
+    let sums = sums_shown e range in
     rw (← c.deref.ensures.value)
     (record {
       by_volume = shares.by_volume.items;
       by_peak = shares.by_peak.items;
       accepted = h.1;
       shared = h.2;
-      printed = printed;
-      volumes_shown = volumes_shown e shares.by_volume.items range h.2.volume_within;
-      peaks_shown = peaks_shown e shares.by_peak.items range h.2.peak_within;
-      sums_shown = sums_shown e range;
+      printed = laid ∙ fitted_shares _ e (volumes_of us) (peaks_of us) shares.by_volume.items shares.by_peak.items few h.2 volumes peaks sums;
+      volumes_shown = volumes;
+      peaks_shown = peaks;
+      sums_shown = sums;
     })

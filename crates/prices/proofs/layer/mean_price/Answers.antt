@@ -14,9 +14,10 @@ returns g c =
     let q = g.S.PriceSource.quote c.args.below.now in
     let sums = c.in_ok-sums.ensures.1 in
     let first = c.in_ok-first.ensures ∙ ap (λ (xs : List Member). q (get_or xs 0 blank).code c.args.market) c.as_slice.ensures in
-    let made : c.new.result ≡ price_of (record { energy = c.energy.result; congestion = c.congestion_mean.result; loss = c.loss_mean.result }) = search rules in
+    let energy : c.components.result.energy ≡ c.energy.result = search rules in
+    let made : c.new.result ≡ price_of (record { energy = c.components.result.energy; congestion = c.components.result.congestion; loss = c.components.result.loss }) = search rules in
     mean_is q c.args.market c.args.members.now.list.items blank _ _ _ c.new.result c.args.members.now.some c.in_ok-sums.ensures.0
-    (c.energy.ensures ∙ ap (component energy_of) first)
-    (c.congestion_mean.ensures ∙ ap₂ nearest_mean sums.congestion sums.weight)
-    (c.loss_mean.ensures ∙ ap₂ nearest_mean sums.loss sums.weight)
+    (energy ∙ c.energy.ensures ∙ ap (component energy_of) first)
+    (c.components.ensures.congestion ∙ ap₂ nearest_mean sums.congestion sums.weight)
+    (c.components.ensures.loss ∙ ap₂ nearest_mean sums.loss sums.weight)
     made

@@ -1,14 +1,14 @@
 use Rattle.std.proofs.Common.{◌≡◌, ◌+◌, ◌++◌, ◌∙◌, string_bytes, rules}
 use Rattle.std.proofs.lemmas.Iterator.{YieldsList-from_slice, YieldsList-from_zip}
 use Rattle.std.proofs.lemmas.Iterator.Consumers.{YieldsList-end, YieldsList-from_enumerate}
-use Rattle.expense_text.specs.Bills.{charge_row}
+use Rattle.expense_text.specs.Layouts.{laid_row}
 use Rattle.expense_text.proofs.Rows.{all_rows, one_more}
 use Rattle.expense_text.proofs.bill.ExpenseShares.write_participants.Goals as goal
 
 pub loop-i-preserved : goal.loop-i-preserved
 loop-i-preserved c =
-    let first : string_bytes c.write_charge.new.page ≡ string_bytes c.loop-i.page ++ charge_row (c.in-Some.i + 1) 21 c.in-Some.by_volume.now.0 = search rules in
-    let second : string_bytes c.write_charge-in-loop-i.new.page ≡ string_bytes c.write_charge.new.page ++ charge_row (c.in-Some.i + 1) 22 c.in-Some.by_peak.now.0 = search rules in
+    let first : string_bytes c.write_charge.new.page ≡ string_bytes c.loop-i.page ++ laid_row (c.in-Some.i + 1) 21 c.in-Some.by_volume.now.0 = search rules in
+    let second : string_bytes c.write_charge-in-loop-i.new.page ≡ string_bytes c.write_charge.new.page ++ laid_row (c.in-Some.i + 1) 22 c.in-Some.by_peak.now.0 = search rules in
     one_more _ _ _ _ c.loop-i.yielded (c.in-Some.i, (c.in-Some.by_volume, c.in-Some.by_peak)) c.loop-i.invariant first second
 
 pub returns : goal.returns
