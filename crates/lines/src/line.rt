@@ -51,6 +51,7 @@ fn units_of<L: SharedLine>(line: &L) -> Result<ArrayVec<i64, MOST_WEIGHTS>, Faul
     if weights.len() > MOST_WEIGHTS {
         return Err(wrong_count(L::line_number()));
     }
+    // A loop, since by `extend` of a `map` the proof did not close.
     let mut units = ArrayVec::new();
     for weight in weights {
         units.push(weight.units());

@@ -1,7 +1,8 @@
 -- Laws of signed numbers: products over sums, sums over lists, distances.
-use Rattle.std.proofs.Common.{◌≡◌, ℕ, suc, ◌+◌, ◌*◌, ◌≤◌, Bool, true, false, cond, ◌&&◌, List, [], ◌∷◌, ◌++◌, ℤ, pos, negsuc, ◌+ℤ◌, ◌-ℤ◌, ◌*ℤ◌, neg_ℤ, nat_abs, ◌≤ℤ◌, sym, refl, ap, ◌∙◌, arith}
+use Rattle.std.proofs.Common.{◌≡◌, ℕ, ◌+◌, ◌*◌, ◌≤◌, Bool, true, false, cond, ◌&&◌, List, [], ◌∷◌, ◌++◌, ℤ, pos, ◌+ℤ◌, ◌-ℤ◌, ◌*ℤ◌, neg_ℤ, nat_abs, ◌≤ℤ◌, sym, refl, ap, ◌∙◌, arith}
 use lib.IntN.{*ℤ_comm, zero-*ℤ}
 use borrow.Author.Differences.{up, down, ints, same_out, Apart-out, lt_out, le_out, same_in, below_in, at_most_in, sum_is_lem, neg_is, abs_is, product_is}
+use Rattle.std.proofs.lemmas.Int.{unsigned_abs-mul}
 use Rattle.std.specs.List.{AllByRecursion}
 use Rattle.obligations.specs.Sums.{sum_over, sum_where, apart}
 
@@ -125,17 +126,8 @@ pub where_sub : {X : Type 0} (test : X → Bool) (f g : X → ℤ) (xs : List X)
 where_sub test f g xs = where_add test f (λ x. neg_ℤ (g x)) xs ∙ ap (λ z. sum_where test f xs +ℤ z) (where_neg test g xs)
 
 -- ---- sizes and distances
-pub abs_add : (a b : ℤ) → nat_abs (a +ℤ b) ≤ nat_abs a + nat_abs b
-abs_add a b = omega (arith, linear)
-
 pub abs_neg : (a : ℤ) → nat_abs (neg_ℤ a) ≡ nat_abs a
 abs_neg a = omega (arith, linear)
-
-pub abs_mul : (a b : ℤ) → nat_abs (a *ℤ b) ≡ nat_abs a * nat_abs b
-abs_mul (pos a) (pos b) = refl
-abs_mul (pos a) (negsuc b) = omega (arith, abs_is (neg_ℤ (pos (a * suc b))), neg_is (pos (a * suc b)))
-abs_mul (negsuc a) (pos b) = omega (arith, abs_is (neg_ℤ (pos (suc a * b))), neg_is (pos (suc a * b)))
-abs_mul (negsuc a) (negsuc b) = refl
 
 pub apart_same : (a b : ℤ) → a ≡ b → apart a b ≡ 0
 apart_same a b e = omega (arith, linear)
@@ -156,7 +148,7 @@ pub apart_zero : (a : ℤ) → apart a (pos 0) ≡ nat_abs a
 apart_zero a = omega (arith, linear)
 
 pub apart_mul_left : (c a b : ℤ) → apart (c *ℤ a) (c *ℤ b) ≡ nat_abs c * apart a b
-apart_mul_left c a b = ap nat_abs (sym (mul_sub c a b)) ∙ abs_mul c (a -ℤ b)
+apart_mul_left c a b = ap nat_abs (sym (mul_sub c a b)) ∙ unsigned_abs-mul c (a -ℤ b)
 
 pub apart_mul_right : (a b c : ℤ) → apart (a *ℤ c) (b *ℤ c) ≡ apart a b * nat_abs c
-apart_mul_right a b c = ap nat_abs (sym (sub_mul a b c)) ∙ abs_mul (a -ℤ b) c
+apart_mul_right a b c = ap nat_abs (sym (sub_mul a b c)) ∙ unsigned_abs-mul (a -ℤ b) c

@@ -1,6 +1,7 @@
 -- No pool and no total weight passes what a sharing rule takes.
 use Rattle.std.proofs.Common.{◌≡◌, ℕ, zero, suc, ◌+◌, ◌*◌, ◌<◌, ◌≤◌, Bool, true, false, cond, not, ◌&&◌, List, [], ◌∷◌, map, ℤ, pos, negsuc, ◌+ℤ◌, ◌-ℤ◌, ◌*ℤ◌, neg_ℤ, nat_abs, ◌≤ℤ◌, Some, None, sum, Option, sym, refl, ap, ◌∙◌, subst, mul-le-mul_right, mul-le-mul_left, arith}
 use borrow.Author.Differences.{ints}
+use Rattle.std.proofs.lemmas.Int.{unsigned_abs-mul}
 use Rattle.std.specs.List.{AllByRecursion}
 use Rattle.std.proofs.lemmas.List.Sums.{sum_by-cons}
 use Rattle.std.proofs.lemmas.Bool.{ltb-true}
@@ -10,6 +11,7 @@ use Rattle.prices.specs.Quotes.{Quote}
 use Rattle.prices.specs.declared.price.Market.{Market}
 use Rattle.prices.specs.declared.price.Market.TheVariants.{DayAhead, RealTime}
 use Rattle.prices.specs.declared.price.Price.{Price}
+use Rattle.prices.specs.Summed.{abs_add}
 use Rattle.prices.specs.Prices.{energy_bound, congestion_bound, loss_bound}
 use Rattle.rules.specs.Sharing.{sizes}
 use Rattle.rules.specs.Shareable.{shareable_from}
@@ -26,7 +28,7 @@ use Rattle.obligations.specs.Limits.{records_total, bilaterals_total, RecordKept
 use Rattle.obligations.specs.Positions.{Postings, record_kwh, bilateral_kwh, loads, adjusted_load, locations}
 use Rattle.obligations.specs.Sums.{sum_over}
 use Rattle.obligations.specs.Terms.{Terms, Component, energy, congestion, loss, component_of, component_in, price_at}
-use Rattle.obligations.proofs.Integers.{linear, mul_one, sum_add, sum_neg, sum_same, sum_le, abs_add, abs_neg, abs_mul, apart_zero, apart_trans}
+use Rattle.obligations.proofs.Integers.{linear, mul_one, sum_add, sum_neg, sum_same, sum_le, abs_neg, apart_zero, apart_trans}
 use Rattle.obligations.proofs.Totals.{all_worth, worth_total, all_map, records_in, sellers_in, unrounded_sum, length_weights, PoolsShareable}
 use Rattle.obligations.proofs.Worth.{position_worth}
 use Rattle.obligations.proofs.Bounds.{pool_close}
@@ -57,7 +59,7 @@ worth_bound location effect g limit small (x ∷ xs) a =
     a.0 (worth_bound location effect g limit small xs a.1)
   where
     product : (e z : ℤ) → nat_abs z ≤ 100000 → nat_abs (e *ℤ z) ≤ nat_abs e * 100000
-    product e z h = omega (arith, abs_mul e z, mul-le-mul_left (nat_abs e) h)
+    product e z h = omega (arith, unsigned_abs-mul e z, mul-le-mul_left (nat_abs e) h)
 
     step : (n u v e : ℕ) (m s : ℤ) → n ≤ u + v → u ≤ e * 100000 → pos e ≤ℤ m → pos v ≤ℤ (s *ℤ pos 100000) → pos n ≤ℤ ((m +ℤ s) *ℤ pos 100000)
     step n u v e m s h₁ h₂ h₃ h₄ = omega (arith, ints)
@@ -132,7 +134,7 @@ module _ (P : ℕ) (b : Postings) (k : Kept P b) where
         arith,
         pool_close b t P m,
         exact_pool_bound t.quote m,
-        abs_mul (pos 1000) (revenue_pool b t P m),
+        unsigned_abs-mul (pos 1000) (revenue_pool b t P m),
         apart_zero (pos 1000 *ℤ revenue_pool b t P m),
         apart_zero (unrounded_pool b t.quote P m),
         apart_trans (pos 1000 *ℤ revenue_pool b t P m) (unrounded_pool b t.quote P m) (pos 0),
