@@ -7,12 +7,12 @@ use prices::source::PriceSource;
 use prices::table::PriceTable;
 use std::alloc::Global;
 
-pub fn code(bytes: &[u8; 8]) -> LocationCode {
+pub(crate) fn code(bytes: &[u8; 8]) -> LocationCode {
     LocationCode { bytes: *bytes }
 }
 
 // The code of a letter and a number below 100.
-pub fn numbered(letter: u8, number: u8) -> LocationCode {
+pub(crate) fn numbered(letter: u8, number: u8) -> LocationCode {
     let tens = b'0' + number / 10 % 10;
     let ones = b'0' + number % 10;
     LocationCode {
@@ -20,7 +20,7 @@ pub fn numbered(letter: u8, number: u8) -> LocationCode {
     }
 }
 
-pub fn components(energy: i64, congestion: i64, loss: i64) -> Components {
+pub(crate) fn components(energy: i64, congestion: i64, loss: i64) -> Components {
     Components {
         energy,
         congestion,
@@ -28,7 +28,7 @@ pub fn components(energy: i64, congestion: i64, loss: i64) -> Components {
     }
 }
 
-pub fn row(code: LocationCode, day_ahead: Components, real_time: Components) -> PriceRow {
+pub(crate) fn row(code: LocationCode, day_ahead: Components, real_time: Components) -> PriceRow {
     PriceRow {
         code,
         day_ahead,
@@ -37,7 +37,7 @@ pub fn row(code: LocationCode, day_ahead: Components, real_time: Components) -> 
 }
 
 // Energy, congestion and loss that a source says of a code.
-pub fn asked<S: PriceSource>(
+pub(crate) fn asked<S: PriceSource>(
     source: &S,
     code: &LocationCode,
     market: Market,
@@ -47,7 +47,7 @@ pub fn asked<S: PriceSource>(
 }
 
 // The table that the tests ask: EAST and WEST, with congestion 100 and 205 in the day-ahead market.
-pub fn east_and_west(heap: Global) -> Result<PriceTable, Fault> {
+pub(crate) fn east_and_west(heap: Global) -> Result<PriceTable, Fault> {
     let mut table = PriceTable::new(heap)?;
     table.add(row(
         code(b"EAST    "),

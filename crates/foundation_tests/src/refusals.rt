@@ -4,7 +4,7 @@ use std::process::Abort;
 
 // Everything that a fault says, its cause by number.
 #[derive(Clone, Copy, PartialEq, Debug)]
-pub struct Refusal {
+pub(crate) struct Refusal {
     number: u8,
     layer: Layer,
     place: Option<usize>,
@@ -15,7 +15,7 @@ pub struct Refusal {
 impl Refusal {
     // A refusal that names neither a charge line nor a text line. What is expected stands in the numbers that a user reads,
     // as a printed refusal has them: place 0 for none.
-    pub fn new(number: u8, layer: Layer, place: usize) -> Refusal {
+    pub(crate) fn new(number: u8, layer: Layer, place: usize) -> Refusal {
         Refusal {
             number,
             layer,
@@ -25,7 +25,7 @@ impl Refusal {
         }
     }
 
-    pub fn on_charge_line(self, charge_line: u8) -> Refusal {
+    pub(crate) fn on_charge_line(self, charge_line: u8) -> Refusal {
         Refusal {
             charge_line: Some(charge_line),
             ..self
@@ -33,7 +33,7 @@ impl Refusal {
     }
 
     // Line 0 stands for the whole text.
-    pub fn on_text_line(self, text_line: usize) -> Refusal {
+    pub(crate) fn on_text_line(self, text_line: usize) -> Refusal {
         Refusal {
             text_line: (text_line > 0).then_some(text_line),
             ..self
@@ -54,7 +54,7 @@ impl From<Fault> for Refusal {
 }
 
 // Checks that a call was refused, and all that its fault says.
-pub fn check_refused<T: Drop>(
+pub(crate) fn check_refused<T: Drop>(
     rt: &impl Abort,
     case: &str,
     answer: Result<T, Fault>,
