@@ -1,17 +1,17 @@
 -- The rule of the largest remainder is fair.
 use Rattle.std.specs.Prelude.{◌≡◌, ℕ, zero, suc, ◌+◌, ◌*◌, ◌<◌, ◌≤◌, true, ltb, List, length, take, ℤ, sum_by, sum, nat_lt, slice_index, unsigned_abs, refl}
 use Rattle.std.proofs.Math.Logic.{⊎_elim}
-use Rattle.std.proofs.Common.{subst, ◌∙◌, one-mul, zero-mul, add-one}
+use Rattle.std.proofs.Common.{sym, subst, ◌∙◌, mul-le-mul_left, one-mul, zero-mul, add-one}
 use Rattle.std.proofs.Math.Path.{ap}
 use Rattle.std.proofs.Math.Nat.{div-add-mod', mod-lt, add-mul, le_of_mul-le-mul_right}
 use native.Mathlib.Omega.{arith}
 use Rattle.std.specs.List.{range_with_len}
 use Rattle.std.proofs.lemmas.List.{take_all}
-use Rattle.std.proofs.lemmas.List.Sums.{sum-map, sum_by_more}
+use Rattle.std.proofs.lemmas.List.Sums.{sum-map, sum_by_more, get_or-le-sum_by}
 use Rattle.std.proofs.lemmas.Bool.{cases_lt}
 use Rattle.std.proofs.lemmas.Bool.Decides.{nat_tests}
 use Rattle.rules.specs.Sharing.{sizes, shareable, Fair, ahead, rank, whole_part, remainder, remainders, left_over, largest_part, largest_remainder}
-use Rattle.rules.specs.Ranks.{upto, upto_is, upto_le, upto_same, upto_add, upto_mul, mark, marks_le, ranked, below_is}
+use Rattle.rules.specs.Ranks.{upto, upto_is, upto_more, upto_grows, upto_le, upto_same, upto_add, upto_mul, mark, marks_le, ranked, below_is}
 use Rattle.rules.specs.Shareable.{shareable_facts}
 use Rattle.rules.specs.Shares.{fair_by_place}
 
@@ -123,6 +123,22 @@ remainders_are t ws p =
     let apart = add-mul (left_over t ws) (wholes t ws p) (sum ws) in
     let pool = ap (λ (m : ℕ). m * sum ws) (left_is t ws p) in
     omega (arith, made_up t ws p)
+
+-- the whole parts of the first places, with one more, stay within the pool
+pub wholes_fit : (t : ℕ) (ws : List ℕ) → 0 < sum ws → (i : ℕ) → i < length ws → upto (whole_part t ws) i + whole_part t ws i ≤ t
+unfolding wholes
+wholes_fit t ws p i h = omega (arith, upto_more (whole_part t ws) i, upto_grows (whole_part t ws) (i + 1) (length ws) (omega arith), wholes_le t ws p)
+
+-- the pool times one weight is at most the pool times all
+pub product_fits : (t : ℕ) (ws : List ℕ) (i : ℕ) → i < length ws → t * slice_index ws i ≤ t * sum ws
+product_fits t ws i h = mul-le-mul_left t (get_or-le-sum_by (λ x. x) ws i 0 h)
+
+-- the rank among the first places of a list that has the remainders there
+pub rank_agrees : (t : ℕ) (ws rests : List ℕ) (n i : ℕ) → i < n → ((k : ℕ) → k < n → slice_index rests k ≡ remainder t ws k) → rank (λ j. slice_index rests j) n i ≡ rank (remainder t ws) n i
+rank_agrees t ws rests n i h same =
+    upto_is (λ j. mark (ahead (λ j. slice_index rests j) i j)) n
+    ∙ upto_same (λ j. mark (ahead (λ j. slice_index rests j) i j)) (λ j. mark (ahead (remainder t ws) i j)) n (λ j l. let a = same i h in let b = same j l in rw (a, b) refl)
+    ∙ sym (upto_is (λ j. mark (ahead (remainder t ws) i j)) n)
 
 pub largest_fair : (pool : ℤ) (ws : List ℤ) → shareable pool ws (length ws) ≡ true → Fair pool ws (largest_remainder pool ws)
 largest_fair pool ws ok =

@@ -23,6 +23,21 @@ upto_is g (suc n) =
     let at : P (n + 1) = omega arith in
     subst P (add-one n) at
 
+pub upto_more : (g : ℕ → ℕ) (n : ℕ) → upto g (n + 1) ≡ upto g n + g n
+upto_more g n = ap (upto g) (add-one n)
+
+-- one place more
+pub count_more : (g : ℕ → ℕ) (n : ℕ) → sum_by g (range_with_len 0 (n + 1)) ≡ sum_by g (range_with_len 0 n) + g n
+count_more g n = omega (arith, upto_is g (n + 1), upto_is g n, upto_more g n)
+
+pub upto_grows : (g : ℕ → ℕ) (m n : ℕ) → m ≤ n → upto g m ≤ upto g n
+upto_grows g m zero h = let e : m ≡ 0 = omega arith in subst (λ (k : ℕ). upto g k ≤ 0) (sym e) (omega arith)
+upto_grows g m (suc n) h =
+    ⊎_elim
+    (λ (l : m < suc n). omega (arith, upto_grows g m n (omega arith)))
+    (λ (l : suc n ≤ m). let e : m ≡ suc n = omega arith in subst (λ (k : ℕ). upto g k ≤ upto g n + g n) (sym e) (omega arith))
+    (cases_lt m (suc n))
+
 pub upto_le : (g h : ℕ → ℕ) (n : ℕ) → ((i : ℕ) → i < n → g i ≤ h i) → upto g n ≤ upto h n
 upto_le g h zero below = omega arith
 upto_le g h (suc n) below = omega (arith, upto_le g h n (λ i k. below i (omega arith)), below n (omega arith))

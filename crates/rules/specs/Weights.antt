@@ -1,10 +1,10 @@
 -- Weights and their sizes: where no weight is below 0, each is its size.
-use Rattle.std.specs.Prelude.{◌≡◌, ℕ, zero, suc, ◌≤◌, true, List, [], ◌∷◌, map, length, ℤ, pos, negsuc, ◌+ℤ◌, sum, is_none, slice_index, slice_index_or, unsigned_abs, refl}
+use Rattle.std.specs.Prelude.{◌≡◌, ℕ, zero, suc, ◌+◌, ◌<◌, ◌≤◌, true, List, [], ◌∷◌, map, length, take, ℤ, pos, negsuc, ◌+ℤ◌, sum, is_none, slice_index, slice_index_or, unsigned_abs, refl}
 use Rattle.std.specs.Int.{is_negative}
 use Rattle.std.specs.List.{position_or_len}
 use Rattle.std.proofs.Common.{sym, ap, ◌∙◌, arith}
-use Rattle.std.proofs.lemmas.List.{length-map}
-use Rattle.std.proofs.lemmas.List.Sums.{sum_by-cons}
+use Rattle.std.proofs.lemmas.List.{length-map, take_all}
+use Rattle.std.proofs.lemmas.List.Sums.{sum_by-cons, sum_by_more}
 use Rattle.std.proofs.lemmas.Bool.Decides.{nat_tests}
 use Rattle.rules.specs.Sharing.{total, sizes, first_negative}
 
@@ -15,6 +15,15 @@ pub get_or_sizes : (ws : List ℤ) (i : ℕ) → slice_index (sizes ws) i ≡ un
 get_or_sizes [] i = refl
 get_or_sizes (w ∷ ws) zero = refl
 get_or_sizes (w ∷ ws) (suc i) = get_or_sizes ws i
+
+-- one weight more, and all of them
+pub sizes_more : (ws : List ℤ) (i : ℕ) → i < length ws → sum (take (i + 1) (sizes ws)) ≡ sum (take i (sizes ws)) + unsigned_abs (slice_index_or ws i (pos 0))
+sizes_more ws i h =
+    let k : i < length (sizes ws) = omega (arith, length_sizes ws) in
+    omega (arith, sum_by_more (λ x. x) (sizes ws) i 0 k, get_or_sizes ws i)
+
+pub sizes_all : (ws : List ℤ) (i : ℕ) → length ws ≤ i → sum (take i (sizes ws)) ≡ sum (sizes ws)
+sizes_all ws i h = ap sum (take_all i (sizes ws) (omega (arith, length_sizes ws)))
 
 -- where no weight is below 0, none comes before the end of the list
 passed : (ws : List ℤ) → is_none (first_negative ws) ≡ true → length ws ≤ position_or_len is_negative ws
