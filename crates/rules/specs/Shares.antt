@@ -1,14 +1,16 @@
 -- From the sizes of shares to signed shares, and from sizes of weights to weights.
-use Rattle.std.specs.Prelude.{◌≡◌, ℕ, zero, suc, ◌+◌, ◌*◌, ◌<◌, List, [], ◌∷◌, map, length, ℤ, pos, negsuc, ◌+ℤ◌, ◌*ℤ◌, neg_ℤ, sum_by, sum, slice_index, slice_index_or, unsigned_abs, is_none, true, refl}
+use Rattle.std.specs.Prelude.{◌≡◌, ℕ, zero, suc, ◌+◌, ◌*◌, ◌<◌, ◌≤◌, List, [], ◌∷◌, ◌++◌, map, length, take, ℤ, pos, negsuc, ◌+ℤ◌, ◌*ℤ◌, neg_ℤ, sum_by, sum, slice_index, slice_index_or, slice_set, unsigned_abs, is_none, true, refl}
 use Rattle.std.proofs.Math.IntN.{neg_ℤ-+ℤ}
 use Rattle.std.proofs.Common.{sym, ap, ◌∙◌, zero-mul, arith}
 use Rattle.std.proofs.lemmas.Int.{ints}
 use Rattle.std.specs.List.{range_with_len}
 use Rattle.std.proofs.lemmas.List.FromFn.{length-map-range_with_len, get_or-map-range_with_len}
+use Rattle.std.proofs.lemmas.List.{length-map, map-set, take_more, take_more_set, take_all}
 use Rattle.std.proofs.lemmas.List.Sums.{sum_by-cons}
+use Rattle.measures.specs.declared.amounts.Cents.{Cents}
 use Rattle.measures.specs.Signs.{signed}
 use Rattle.rules.specs.Rounding.{Near}
-use Rattle.rules.specs.Sharing.{total, sizes, first_negative, Fair, by_place}
+use Rattle.rules.specs.Sharing.{total, sizes, first_negative, amounts, Fair, by_place}
 use Rattle.rules.specs.Weights.{length_sizes, total_is, weight_is}
 
 signed_add : (x : ℤ) (a b : ℕ) → signed x a +ℤ signed x b ≡ signed x (a + b)
@@ -63,3 +65,17 @@ fair_by_place part pool ws none adds near =
           let k : i < length ns = omega arith in
           rw (get_or_by_place part pool ws i h, total_is ws none, weight_is ws none i) (near_signed pool (part size ns i) (slice_index ns i) (sum ns) (near i k).0 (near i k).1);
     }
+
+-- the step of a loop that writes the shares ys one after another
+pub put_share : (out : List Cents) (i : ℕ) (v : Cents) (ys : List ℤ) → i < length out → i < length ys → take i (amounts out) ≡ take i ys → v.0 ≡ slice_index_or ys i (pos 0) → take (i + 1) (amounts (slice_set out i v)) ≡ take (i + 1) ys
+put_share out i v ys h k e w =
+    let f : Cents → ℤ = λ c. c.0 in
+    let m : i < length (amounts out) = rw (length-map out f) h in
+    ap (take (i + 1)) (map-set f out i v) ∙ take_more_set (amounts out) i v.0 m ∙ ap (λ xs. xs ++ v.0 ∷ []) e ∙ ap (λ z. take i ys ++ z ∷ []) w ∙ sym (take_more ys i (pos 0) k)
+
+-- and its end
+pub all_put : (out : List Cents) (i : ℕ) (ys : List ℤ) → length out ≤ i → length ys ≤ i → take i (amounts out) ≡ take i ys → amounts out ≡ ys
+all_put out i ys h k e =
+    let f : Cents → ℤ = λ c. c.0 in
+    let m : length (amounts out) ≤ i = rw (length-map out f) h in
+    sym (take_all i (amounts out) m) ∙ e ∙ take_all i ys k

@@ -196,34 +196,32 @@ impl<'a> Pool<'a> {
         rests.iter().sum::<u64>() / self.total
     }
 
-    // The whole parts, and a cent more where fewer places go before one than cents are left.
-    fn by_largest_remainder(&self) -> ArrayVec<Cents, MOST_WEIGHTS>
-        ensures { amounts result.items ≡ largest_remainder self.now.cents.0 self.now.weights.now }
+    // Writes the whole parts, and a cent more where fewer places go before one than cents are left.
+    fn write_largest_remainder(&self, to: &mut [Cents])
+        requires { length to.old ≡ length self.now.weights.now }
+        ensures { amounts to.new ≡ largest_remainder self.now.cents.0 self.now.weights.now }
     {
         let rests = self.remainders();
         let left = self.left_over(&rests);
-        let mut shares = ArrayVec::new();
         for (i, weight) in self.weights.iter().enumerate() {
             let extra = extra_cent(rank_of(&rests, i), left);
-            shares.push(self.share(self.whole_cents(weight.unsigned_abs()) + extra));
+            to[i] = self.share(self.whole_cents(weight.unsigned_abs()) + extra);
         }
-        shares
     }
 
-    // What the weights up to each place have reached, less what those before it had.
-    fn running(&self) -> ArrayVec<Cents, MOST_WEIGHTS>
-        ensures { amounts result.items ≡ running self.now.cents.0 self.now.weights.now }
+    // Writes what the weights up to each place have reached, less what those before it had.
+    fn write_running(&self, to: &mut [Cents])
+        requires { length to.old ≡ length self.now.weights.now }
+        ensures { amounts to.new ≡ running self.now.cents.0 self.now.weights.now }
     {
-        let mut shares = ArrayVec::new();
         let mut so_far = 0;
         let mut given = 0;
-        for weight in self.weights {
+        for (i, weight) in self.weights.iter().enumerate() {
             so_far += weight.unsigned_abs();
             let reached = self.whole_cents(so_far);
-            shares.push(self.share(reached - given));
+            to[i] = self.share(reached - given);
             given = reached;
         }
-        shares
     }
 }
 
@@ -238,7 +236,7 @@ impl Sharing for LargestRemainder {
 
     fn share(&self, pool: Cents, weights: &[i64], to: &mut [Cents]) -> Result<(), Fault> {
         let pool = Pool::new(pool, weights, to.len())?;
-        to.copy_from_slice(&pool.by_largest_remainder());
+        pool.write_largest_remainder(to);
         Ok(())
     }
 }
@@ -254,7 +252,7 @@ impl Sharing for Running {
 
     fn share(&self, pool: Cents, weights: &[i64], to: &mut [Cents]) -> Result<(), Fault> {
         let pool = Pool::new(pool, weights, to.len())?;
-        to.copy_from_slice(&pool.running());
+        pool.write_running(to);
         Ok(())
     }
 }
