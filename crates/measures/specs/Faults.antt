@@ -1,5 +1,5 @@
 -- Faults: the number of each cause, the name of each layer, and what a layer above adds.
-use Rattle.std.specs.Prelude.{ℕ, List, codes, Some, None, Option}
+use Rattle.std.specs.Prelude.{ℕ, List, cond, codes, Some, None, Option, nat_lt}
 use Rattle.std.specs.Option.{option_or}
 use Rattle.measures.specs.declared.fault.Fault.{Fault}
 use Rattle.measures.specs.declared.fault.Cause.{Cause}
@@ -42,10 +42,14 @@ layer_name Hour = codes "HOUR"
 abbrev pub fault : Cause → Layer → Option ℕ → Fault
 fault c l p = record { cause = c; layer = l; place = p; charge_line = None; text_line = None }
 
+-- the line of a number: lines count from 1, and 0 is none
+abbrev pub line_numbered : ℕ → Option ℕ
+line_numbered n = cond (nat_lt 0 n) (Some n) None
+
 -- the fault with a charge line added where it has none; all else stays
 abbrev pub on_charge_line : ℕ → Fault → Fault
-on_charge_line n f = record { cause = f.cause; layer = f.layer; place = f.place; charge_line = option_or f.charge_line (Some n); text_line = f.text_line }
+on_charge_line n f = record { cause = f.cause; layer = f.layer; place = f.place; charge_line = option_or f.charge_line (line_numbered n); text_line = f.text_line }
 
 -- the fault with a text line added where it has none; all else stays
 abbrev pub on_text_line : ℕ → Fault → Fault
-on_text_line n f = record { cause = f.cause; layer = f.layer; place = f.place; charge_line = f.charge_line; text_line = option_or f.text_line (Some n) }
+on_text_line n f = record { cause = f.cause; layer = f.layer; place = f.place; charge_line = f.charge_line; text_line = option_or f.text_line (line_numbered n) }

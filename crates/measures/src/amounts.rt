@@ -19,11 +19,11 @@ pub struct Thousandths(pub i64);
 pub struct Cents(pub i64);
 
 // Whole megawatt-hours, a unit of weight.
-#[derive(Clone, Copy, PartialEq, Eq, Debug)]
+#[derive(Clone, Copy, PartialEq, Eq, Default, Debug)]
 pub struct MegawattHours(pub i64);
 
 // Whole kilowatts, a unit of weight.
-#[derive(Clone, Copy, PartialEq, Eq, Debug)]
+#[derive(Clone, Copy, PartialEq, Eq, Default, Debug)]
 pub struct Kilowatts(pub i64);
 
 // Operators are written out, since no derive of the library gives them.

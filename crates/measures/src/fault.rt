@@ -87,22 +87,24 @@ impl Fault {
         }
     }
 
-    // The same fault with the charge line added by the layer above; one that has a charge line keeps it.
+    // The same fault with the charge line added by the layer above; one that has a charge line keeps it. Lines count
+    // from 1, and 0 adds none.
     pub fn on_charge_line(self, line: u8) -> Fault
         ensures { result ≡ on_charge_line line self }
     {
         Fault {
-            charge_line: self.charge_line.or(Some(line)),
+            charge_line: self.charge_line.or((line > 0).then_some(line)),
             ..self
         }
     }
 
-    // The same fault with the text line added by the layer above; one that has a text line keeps it.
+    // The same fault with the text line added by the layer above; one that has a text line keeps it. Lines count from 1,
+    // and 0 adds none.
     pub fn on_text_line(self, line: usize) -> Fault
         ensures { result ≡ on_text_line line self }
     {
         Fault {
-            text_line: self.text_line.or(Some(line)),
+            text_line: self.text_line.or((line > 0).then_some(line)),
             ..self
         }
     }
