@@ -12,7 +12,7 @@ use Rattle.lines.specs.Shared.{LineShared}
 use Rattle.lines.proofs.Halves.{pools_add}
 
 -- where line 22 passed its test, its pool can be shared
-peaks_pass : (e : ℤ) (participants : ℕ) (peaks : List ℤ) (places : ℕ) → peaks_shareable e participants peaks places ≡ true → shareable (peak_pool e) peaks places ≡ true
+pub peaks_pass : (e : ℤ) (participants : ℕ) (peaks : List ℤ) (places : ℕ) → peaks_shareable e participants peaks places ≡ true → shareable (peak_pool e) peaks places ≡ true
 peaks_pass e participants peaks places h = (and_parts (eqb (length peaks) participants) _ h).1
 
 -- an accepted line charges nobody less than 0 or more than its pool
@@ -27,7 +27,7 @@ rest_of_half : (n : ℕ) → volume_pool (pos n) ≡ pos (n - n / 2)
 rest_of_half n = omega (arith, ints)
 
 -- both lines shared: every cent of the expense is in one of them
-both_shared : (rule : ℤ → List ℤ → List ℤ) (e : ℤ) (volumes peaks : List ℤ) (before21 after21 before22 after22 : List Cents) → expense_in_range e ≡ true → LineShared rule 21 (volume_pool e) volumes before21 after21 (Ok tt) → LineShared rule 22 (peak_pool e) peaks before22 after22 (Ok tt) → ExpenseShared rule e volumes peaks (amounts after21) (amounts after22)
+pub both_shared : (rule : ℤ → List ℤ → List ℤ) (e : ℤ) (volumes peaks : List ℤ) (before21 after21 before22 after22 : List Cents) → expense_in_range e ≡ true → LineShared rule 21 (volume_pool e) volumes before21 after21 (Ok tt) → LineShared rule 22 (peak_pool e) peaks before22 after22 (Ok tt) → ExpenseShared rule e volumes peaks (amounts after21) (amounts after22)
 both_shared rule (pos n) volumes peaks before21 after21 before22 after22 c a b =
     record {
       by_volume = a.1;
