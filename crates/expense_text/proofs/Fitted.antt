@@ -1,16 +1,15 @@
--- Where every text fits its columns, what the formats write is the bill.
-use Rattle.std.proofs.Common.{◌≡◌, ℕ, suc, ◌+◌, ◌<◌, ◌≤◌, ◌^◌, List, [], ◌∷◌, ◌++◌, length, ℤ, pos, ◌+ℤ◌, codes, decimal, sym, refl, subst, ap, ap₂, ◌∙◌, add-one, append_assoc, arith}
+-- Where every text fits its columns, what is written is the bill.
+use Rattle.std.proofs.Common.{◌≡◌, ℕ, suc, ◌+◌, ◌<◌, ◌≤◌, List, [], ◌∷◌, ◌++◌, length, ℤ, pos, ◌+ℤ◌, codes, sym, refl, subst, ap, ap₂, ◌∙◌, add-one, append_assoc, arith}
 use Rattle.std.specs.List.{AllByRecursion, enumerate_from, flat_map, zip}
 use Rattle.std.proofs.lemmas.List.{length-map}
-use Rattle.std.proofs.lemmas.Fmt.{length-decimal-le}
 use Rattle.measures.specs.declared.amounts.Cents.{Cents}
 use Rattle.rules.specs.Sharing.{amounts, total}
 use Rattle.lines.specs.Expense.{ExpenseShared, peak_pool, volume_pool}
-use Rattle.text.specs.Fields.{dollars_text, number_text, right}
+use Rattle.text.specs.Fields.{dollars_text, number_text}
 use Rattle.expense_text.specs.Bills.{AllShown, amount_columns, bill_header, bill_text, charge_columns, participant_rows, sum_rows, two_rows}
 use Rattle.expense_text.specs.Layouts.{laid_amount, laid_bill, laid_charge, laid_row, laid_sums, laid_two_rows}
 use Rattle.expense_text.specs.Refusals.{field}
-use Rattle.expense_text.proofs.Refused.{shown}
+use Rattle.expense_text.proofs.Refused.{number_shown, shown}
 
 abbrev Shown : ℤ → Type 0
 Shown z = length (dollars_text z) ≤ 15
@@ -18,14 +17,11 @@ Shown z = length (dollars_text z) ≤ 15
 amount : (z : ℤ) → Shown z → laid_amount z ≡ amount_columns z
 amount z h = ap (λ (bs : List ℕ). bs ++ (10 ∷ [])) (shown 15 (dollars_text z) h)
 
-number : (w n : ℕ) → 0 < w → n < 10 ^ w → n < 2 ^ 64 → right w (number_text (pos n)) ≡ field w (number_text (pos n))
-number w n some low h = shown w (decimal n) (length-decimal-le w n some low h)
-
 charge : (n : ℕ) (z : ℤ) → n < 1000000 → Shown z → laid_charge n z ≡ charge_columns (pos n) z
-charge n z low h = ap₂ (λ (xs ys : List ℕ). xs ++ ys) (number 6 n (omega arith) (omega arith) (omega arith)) (amount z h)
+charge n z low h = ap₂ (λ (xs ys : List ℕ). xs ++ ys) (number_shown 6 n (omega arith) (omega arith) (omega arith)) (amount z h)
 
 row : (n line : ℕ) (z : ℤ) → n < 10000 → line < 1000000 → Shown z → laid_row n line z ≡ field 4 (number_text (pos n)) ++ charge_columns (pos line) z
-row n line z few low h = ap₂ (λ (xs ys : List ℕ). xs ++ ys) (number 4 n (omega arith) (omega arith) (omega arith)) (charge line z low h)
+row n line z few low h = ap₂ (λ (xs ys : List ℕ). xs ++ ys) (number_shown 4 n (omega arith) (omega arith) (omega arith)) (charge line z low h)
 
 rows_of_one : (n : ℕ) (x y : ℤ) → n < 10000 → Shown x → Shown y → laid_two_rows n x y ≡ two_rows n x y
 rows_of_one n x y few h k =

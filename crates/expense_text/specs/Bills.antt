@@ -1,5 +1,5 @@
 -- The bill of a month's expense: every byte of it.
-use Rattle.std.specs.Prelude.{◌≡◌, ℕ, suc, ◌<◌, ◌≤◌, ◌⊎◌, List, [], ◌∷◌, ◌++◌, map, length, ℤ, pos, ◌+ℤ◌, Some, None, Ok, Err, string_bytes, codes, Option, Result, String, slice_index_or}
+use Rattle.std.specs.Prelude.{◌≡◌, ℕ, suc, ◌+◌, ◌<◌, ◌≤◌, ◌⊎◌, List, [], ◌∷◌, ◌++◌, map, length, ℤ, pos, ◌+ℤ◌, Some, None, Ok, Err, string_bytes, codes, Option, Result, String, slice_index_or}
 use Rattle.std.specs.declared.alloc.Global.{Global}
 use Rattle.measures.specs.declared.amounts.Cents.{Cents}
 use Rattle.measures.specs.declared.amounts.Kilowatts.{Kilowatts}
@@ -8,7 +8,7 @@ use Rattle.measures.specs.declared.fault.Fault.{Fault}
 use Rattle.rules.specs.Sharing.{amounts, total}
 use Rattle.lines.specs.Expense.{ExpenseShared, expense_refusal, peak_pool, volume_pool}
 use Rattle.lines.specs.declared.month_use.MonthUse.{MonthUse}
-use Rattle.text.specs.Fields.{dollars_text, number_text}
+use Rattle.text.specs.Fields.{Field, dollars_text, number_text}
 use Rattle.expense_text.specs.Months.{no_memory}
 use Rattle.expense_text.specs.Refusals.{field}
 
@@ -65,6 +65,14 @@ bill_refusal e us = expense_refusal e (volumes_of us) (peaks_of us) (length us) 
 abbrev pub AllShown : List Cents → Type 0
 AllShown xs = (i : ℕ) → i < length (amounts xs) → length (dollars_text (slice_index_or (amounts xs) i (pos 0))) ≤ 15
 
+-- each participant's number, in the columns of its rows, reads as that number
+abbrev pub ParticipantsRead : List Cents → Type 0
+ParticipantsRead xs = (i : ℕ) → i < length xs → Field (field 4 (number_text (pos (i + 1)))) (pos (i + 1))
+
+-- and so do the numbers of both lines
+abbrev pub LinesRead : Type 0
+LinesRead = Field (field 6 (number_text (pos 21))) (pos 21) × Field (field 6 (number_text (pos 22))) (pos 22)
+
 -- the bytes are the bill of this month by a sharing rule: every cent of the expense in one of its rows
 pub record IsBill (rule : ℤ → List ℤ → List ℤ) (e : ℤ) (us : List MonthUse) (bs : List ℕ) : Type 0 where
   pub by_volume : List Cents
@@ -74,9 +82,11 @@ pub record IsBill (rule : ℤ → List ℤ → List ℤ) (e : ℤ) (us : List Mo
   pub printed : bs ≡ bill_text by_volume by_peak
   pub volumes_shown : AllShown by_volume
   pub peaks_shown : AllShown by_peak
+  pub participants_read : ParticipantsRead by_volume
+  pub lines_read : LinesRead
   pub sums_shown : (length (dollars_text (volume_pool e)) ≤ 15) × (length (dollars_text (peak_pool e)) ≤ 15) × (length (dollars_text e) ≤ 15)
 
--- what billing a month answers
+-- what billing a month answers: its bill, or why there is none; want of memory only where nothing else stands against it
 abbrev pub BillAnswered : (ℤ → List ℤ → List ℤ) → ℤ → List MonthUse → Result (String Global) Fault → Type 0
 BillAnswered rule e us (Ok page) = IsBill rule e us (string_bytes page)
-BillAnswered rule e us (Err f) = (bill_refusal e us ≡ Some f) ⊎ (f ≡ no_memory)
+BillAnswered rule e us (Err f) = (bill_refusal e us ≡ Some f) ⊎ ((bill_refusal e us ≡ None) × (f ≡ no_memory))

@@ -22,11 +22,11 @@ TooLong bs f = (65536 < length bs) × (f ≡ fault Layout Text None)
 abbrev pub NotBilled : List ℕ → Fault → Type 0
 NotBilled bs f = (e : ℤ) × ((us : List MonthUse) × ((why : Fault) × (IsMonth e us bs × (bill_refusal e us ≡ Some why) × (f ≡ at_its_line why))))
 
--- there was no memory, for the month or for the bill
-abbrev pub OutOfMemory : Fault → Type 0
-OutOfMemory f = (f ≡ no_memory) ⊎ (f ≡ at_its_line no_memory)
+-- there was no memory for the month; or none for the bill of one that nothing else stands against
+abbrev pub OutOfMemory : List ℕ → Fault → Type 0
+OutOfMemory bs f = (f ≡ no_memory) ⊎ ((e : ℤ) × ((us : List MonthUse) × (IsMonth e us bs × (bill_refusal e us ≡ None) × (f ≡ at_its_line no_memory))))
 
 -- what a file is answered: the bill of the month that it states, or the first cause that it has none
 abbrev pub FileAnswered : (ℤ → List ℤ → List ℤ) → List ℕ → Result (String Global) Fault → Type 0
 FileAnswered rule bs (Ok page) = (length bs ≤ 65536) × ((e : ℤ) × ((us : List MonthUse) × (IsMonth e us bs × IsBill rule e us (string_bytes page))))
-FileAnswered rule bs (Err f) = TooLong bs f ⊎ ((length bs ≤ 65536) × (AgainstLayout bs f ⊎ (NotBilled bs f ⊎ OutOfMemory f)))
+FileAnswered rule bs (Err f) = TooLong bs f ⊎ ((length bs ≤ 65536) × (AgainstLayout bs f ⊎ (NotBilled bs f ⊎ OutOfMemory bs f)))

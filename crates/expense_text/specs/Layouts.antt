@@ -1,4 +1,4 @@
--- What formats write of a bill: each text at the right end of its columns, also where it is longer than these.
+-- What the rows of a bill are written as: each text at the right end of its columns, also where it is longer than these.
 -- Where every text fits, as in each bill, this is the bill.
 use Rattle.std.specs.Prelude.{ℕ, ◌+◌, List, [], ◌∷◌, ◌++◌, ℤ, pos, ◌+ℤ◌, codes}
 use Rattle.std.specs.List.{enumerate_from, flat_map, zip}

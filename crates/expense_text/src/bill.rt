@@ -1,21 +1,47 @@
 // The bill of a month's expense: each participant's lines 21 and 22, and their sums.
-ghost use Rattle.std.specs.Prelude.{◌≡◌, ◌⊎◌, ◌++◌, None, Some, MatchResult, map, OnOk, IfOk, string_bytes};
+ghost use Rattle.std.specs.Prelude.{◌≡◌, ◌≤◌, ◌++◌, length, None, Some, MatchResult, map, OnOk, IfOk, string_bytes};
+ghost use Rattle.rules.specs.declared.sharing.TheConstants.{MOST_WEIGHTS};
 ghost use Rattle.lines.specs.Expense.{ExpenseShared, peak_pool, volume_pool};
 ghost use Rattle.rules.specs.Sharing.{amounts, total};
 ghost use Rattle.expense_text.specs.Bills.{BillAnswered, bill_refusal, peak_weight, peaks_of, volume_weight, volumes_of};
-ghost use Rattle.expense_text.specs.Layouts.{laid_bill, laid_line_sum, laid_row, laid_rows, laid_sums, laid_whole_sum};
-ghost use Rattle.expense_text.specs.Months.{no_memory};
+ghost use Rattle.expense_text.specs.Layouts.{laid_amount, laid_bill, laid_charge, laid_line_sum, laid_row, laid_rows, laid_sums, laid_whole_sum};
 
 use crate::month::{ExpenseMonth, no_memory};
+use crate::row::{LONGEST_ROW, push_column};
+use arrayvec::{ArrayString, ArrayVec};
+use itoa::Buffer;
 use lines::expense::{PeakLine, VolumeLine, peak_pool, share_expense, volume_pool};
-use lines::line::ChargeLine;
+use lines::line::{ChargeLine, wrong_count};
 use lines::month_use::MonthUse;
 use measures::amounts::{Cents, Kilowatts, MegawattHours};
 use measures::fault::Fault;
-use rules::sharing::Sharing;
+use rules::sharing::{MOST_WEIGHTS, Sharing};
 use std::alloc::{AllocError, Global};
-use std::fmt::Write;
 use text::dollars::Dollars;
+
+// The bytes of a row, and the rows that are no participant's: the header and the sums.
+const ROW: usize = 26;
+
+const OTHER_ROWS: usize = 4;
+
+// The end of a row: an amount and the line feed.
+fn push_amount(row: &mut ArrayString<LONGEST_ROW>, amount: Cents)
+    requires { length row.old.bytes ≤ 80 }
+    ensures { row.new.bytes ≡ row.old.bytes ++ laid_amount amount.0 }
+{
+    push_column(row, 15, Dollars(amount).text().as_str());
+    row.push_str("\n");
+}
+
+// The end of a row: a line's number and its amount.
+fn push_charge(row: &mut ArrayString<LONGEST_ROW>, line: u8, amount: Cents)
+    requires { length row.old.bytes ≤ 50 }
+    ensures { row.new.bytes ≡ row.old.bytes ++ laid_charge line amount.0 }
+{
+    let mut digits = Buffer::new();
+    push_column(row, 6, digits.format(line));
+    push_amount(row, amount);
+}
 
 // A participant's row in a line.
 fn write_charge(
@@ -26,24 +52,31 @@ fn write_charge(
 ) -> Result<(), AllocError>
     ensures { OnOk result (string_bytes page.new ≡ string_bytes page.old ++ laid_row participant line amount.0) }
 {
-    let amount = Dollars(amount);
-    writeln!(page, "{participant:>4}{line:>6}{amount:>15}")
+    let mut digits = Buffer::new();
+    let mut row = ArrayString::new();
+    push_column(&mut row, 4, digits.format(participant));
+    push_charge(&mut row, line, amount);
+    page.push_str(row.as_str())
 }
 
 // The row of a line's sum.
 fn write_line_sum(page: &mut String, line: u8, amount: Cents) -> Result<(), AllocError>
     ensures { OnOk result (string_bytes page.new ≡ string_bytes page.old ++ laid_line_sum line amount.0) }
 {
-    let amount = Dollars(amount);
-    writeln!(page, "SUM {line:>6}{amount:>15}")
+    let mut row = ArrayString::new();
+    row.push_str("SUM ");
+    push_charge(&mut row, line, amount);
+    page.push_str(row.as_str())
 }
 
 // The row of the sum of both lines.
 fn write_whole_sum(page: &mut String, amount: Cents) -> Result<(), AllocError>
     ensures { OnOk result (string_bytes page.new ≡ string_bytes page.old ++ laid_whole_sum amount.0) }
 {
-    let amount = Dollars(amount);
-    writeln!(page, "SUM       {amount:>15}")
+    let mut row = ArrayString::new();
+    row.push_str("SUM       ");
+    push_amount(&mut row, amount);
+    page.push_str(row.as_str())
 }
 
 // The sums of the two lines, and of both.
@@ -55,24 +88,37 @@ fn write_sums(page: &mut String, expense: Cents) -> Result<(), AllocError>
     write_whole_sum(page, expense)
 }
 
-// Each participant's weight in line 21 and in line 22. Two lists, as the expense's sharing takes them apart.
+// Each participant's weight in line 21 and in line 22. Two lists, as the expense's sharing takes them apart. They stand in
+// the value itself, so that sharing an expense never wants memory.
 #[derive(Drop)]
 struct UseWeights {
-    volumes: Vec<MegawattHours>,
-    peaks: Vec<Kilowatts>,
+    volumes: ArrayVec<MegawattHours, MOST_WEIGHTS>,
+    peaks: ArrayVec<Kilowatts, MOST_WEIGHTS>,
 }
 
 impl UseWeights {
-    fn of(heap: Global, uses: &[MonthUse]) -> Result<UseWeights, AllocError>
-        ensures { IfOk result (λ weights. (weights.volumes.items ≡ map volume_weight uses.now) × (weights.peaks.items ≡ map peak_weight uses.now)) }
+    fn of(uses: &[MonthUse]) -> UseWeights
+        requires { length uses.now ≤ MOST_WEIGHTS }
+        ensures { (result.volumes.items ≡ map volume_weight uses.now) × (result.peaks.items ≡ map peak_weight uses.now) }
     {
-        let volumes = uses
-            .iter()
-            .map(|month_use| month_use.volume())
-            .collect(heap)?;
-        let peaks = uses.iter().map(|month_use| month_use.peak()).collect(heap)?;
-        Ok(UseWeights { volumes, peaks })
+        let mut volumes = ArrayVec::new();
+        let mut peaks = ArrayVec::new();
+        for month_use in uses {
+            volumes.push(month_use.volume());
+            peaks.push(month_use.peak());
+        }
+        UseWeights { volumes, peaks }
     }
+}
+
+// No cents yet, for each of so many participants.
+fn no_shares(participants: usize) -> ArrayVec<Cents, MOST_WEIGHTS>
+    requires { participants ≤ MOST_WEIGHTS }
+    ensures { length result.items ≡ participants }
+{
+    let mut shares = ArrayVec::from([Cents(0); MOST_WEIGHTS]);
+    shares.truncate(participants);
+    shares
 }
 
 // Each participant's shares of an expense; those of a line add up to its pool. Two lists, as the expense's sharing writes
@@ -80,25 +126,28 @@ impl UseWeights {
 #[derive(Drop)]
 struct ExpenseShares {
     expense: Cents,
-    by_volume: Vec<Cents>,
-    by_peak: Vec<Cents>,
+    by_volume: ArrayVec<Cents, MOST_WEIGHTS>,
+    by_peak: ArrayVec<Cents, MOST_WEIGHTS>,
     ghost volumes_add: { total (amounts by_volume.items) ≡ volume_pool expense.0 },
     ghost peaks_add: { total (amounts by_peak.items) ≡ peak_pool expense.0 },
 }
 
 impl ExpenseShares {
-    // Shares an expense by the participants' use.
+    // Shares an expense by the participants' use. More participants than a pool is shared by are refused before any is
+    // looked at.
     fn by_use<H: Sharing>(
-        heap: Global,
         rule: &H,
         expense: Cents,
         uses: &[MonthUse],
     ) -> Result<ExpenseShares, Fault>
-        ensures { MatchResult result (λ shares. (shares.expense ≡ expense) × (bill_refusal expense.0 uses.now ≡ None) × ExpenseShared (H.Sharing.shares rule.now) expense.0 (volumes_of uses.now) (peaks_of uses.now) (amounts shares.by_volume.items) (amounts shares.by_peak.items)) (λ f. (bill_refusal expense.0 uses.now ≡ Some f) ⊎ (f ≡ no_memory)) }
+        ensures { MatchResult result (λ shares. (shares.expense ≡ expense) × (bill_refusal expense.0 uses.now ≡ None) × ExpenseShared (H.Sharing.shares rule.now) expense.0 (volumes_of uses.now) (peaks_of uses.now) (amounts shares.by_volume.items) (amounts shares.by_peak.items)) (λ f. bill_refusal expense.0 uses.now ≡ Some f) }
     {
-        let weights = UseWeights::of(heap, uses).map_err(|_| no_memory())?;
-        let mut by_volume = vec![in heap; Cents(0); uses.len()].map_err(|_| no_memory())?;
-        let mut by_peak = vec![in heap; Cents(0); uses.len()].map_err(|_| no_memory())?;
+        if uses.len() > MOST_WEIGHTS {
+            return Err(wrong_count(VolumeLine::NUMBER));
+        }
+        let weights = UseWeights::of(uses);
+        let mut by_volume = no_shares(uses.len());
+        let mut by_peak = no_shares(uses.len());
         share_expense(
             rule,
             expense,
@@ -129,7 +178,8 @@ impl ExpenseShares {
     fn bill(&self, heap: Global) -> Result<String, AllocError>
         ensures { IfOk result (λ page. string_bytes page ≡ laid_bill self.now.by_volume.items self.now.by_peak.items) }
     {
-        let mut page = String::from_str(heap, "PART  LINE         AMOUNT\n")?;
+        let mut page = String::with_capacity(heap, (2 * self.by_volume.len() + OTHER_ROWS) * ROW)?;
+        page.push_str("PART  LINE         AMOUNT\n")?;
         self.write_participants(&mut page)?;
         write_sums(&mut page, self.expense)?;
         Ok(page)
@@ -144,7 +194,7 @@ pub fn expense_bill<H: Sharing>(
 ) -> Result<String, Fault>
     ensures { BillAnswered (H.Sharing.shares rule.now) month.now.expense.0 month.now.participants.items result }
 {
-    let shares = ExpenseShares::by_use(heap, rule, month.expense, &month.participants)?;
+    let shares = ExpenseShares::by_use(rule, month.expense, &month.participants)?;
     // What `map_err` answers is not handed on as it is: the proof of that did not close.
     let page = shares.bill(heap).map_err(|_| no_memory())?;
     Ok(page)

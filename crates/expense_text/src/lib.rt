@@ -5,3 +5,4 @@ pub mod bill;
 pub mod file;
 pub mod month;
 pub mod refusal;
+mod row;

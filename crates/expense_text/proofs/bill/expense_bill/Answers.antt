@@ -1,9 +1,12 @@
-use Rattle.std.proofs.Common.{◌≡◌, ◌∙◌, string_bytes, rules}
+use Rattle.std.proofs.Common.{◌≡◌, ◌∙◌, string_bytes, arith, rules}
+use Rattle.std.proofs.lemmas.List.{length-map}
+use Rattle.measures.specs.declared.amounts.Cents.{Cents}
 use Rattle.lines.proofs.Peaks.{accepted_few, accepted_range}
 use Rattle.expense_text.specs.Bills.{peaks_of, volumes_of}
 use Rattle.expense_text.specs.Layouts.{laid_bill}
 use Rattle.expense_text.proofs.Fitted.{fitted_shares}
 use Rattle.expense_text.proofs.Shown.{peaks_shown, sums_shown, volumes_shown}
+use Rattle.expense_text.proofs.Told.{lines_read, participants_read}
 use Rattle.expense_text.proofs.bill.expense_bill.Goals as goal
 
 pub returns : goal.returns
@@ -18,6 +21,8 @@ returns g c =
     let volumes = volumes_shown e shares.by_volume.items range h.2.volume_within in
     let peaks = peaks_shown e shares.by_peak.items range h.2.peak_within in
     let sums = sums_shown e range in
+    let each = h.2.volume_fair.each in
+    let many = length-map shares.by_volume.items (λ (c : Cents). c.0) in
     rw (← c.deref.ensures.value)
     (record {
       by_volume = shares.by_volume.items;
@@ -27,5 +32,7 @@ returns g c =
       printed = laid ∙ fitted_shares _ e (volumes_of us) (peaks_of us) shares.by_volume.items shares.by_peak.items few h.2 volumes peaks sums;
       volumes_shown = volumes;
       peaks_shown = peaks;
+      participants_read = participants_read shares.by_volume.items (omega arith);
+      lines_read = lines_read;
       sums_shown = sums;
     })
