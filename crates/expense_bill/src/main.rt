@@ -5,7 +5,7 @@ use expense_text::file::bill_of_file;
 use expense_text::refusal::refusal_row;
 use rules::sharing::LargestRemainder;
 use std::io;
-use std::io::Read;
+use std::io::{Read, Write};
 
 // One byte more than a file may have, so that a longer one is seen to be longer.
 fn read_input(rt: &HostRuntime) -> io::Result<Vec<u8>> {
@@ -20,5 +20,6 @@ fn main(rt: HostRuntime) -> io::Result<()> {
         rt.alloc(),
         &fault,
     ))?;
-    print!(rt; "{page}")
+    // At once, so that a reader has the whole page or nothing.
+    rt.stdout().write_all(page.as_bytes())
 }
