@@ -20,6 +20,6 @@ fn main(rt: HostRuntime) -> io::Result<()> {
         rt.alloc(),
         &fault,
     ))?;
-    // At once, so that a reader has the whole page or nothing.
+    // In one write, so that a pipe takes the page whole.
     rt.stdout().write_all(page.as_bytes())
 }

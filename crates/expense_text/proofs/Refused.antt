@@ -1,4 +1,4 @@
--- The row of a refusal, put together from its columns.
+-- Texts and numbers that fit their columns, and the text line of a refusal.
 use Rattle.std.proofs.Common.{◌≡◌, ℕ, ◌-◌, ◌^◌, ◌<◌, ◌≤◌, min, List, [], length, replicate, pos, decimal, refl, sym, ap, ◌∙◌, arith}
 use Rattle.std.proofs.lemmas.Bool.{le-leb}
 use Rattle.std.proofs.lemmas.Fmt.{length-decimal-le}

@@ -133,18 +133,15 @@ struct ExpenseShares {
 }
 
 impl ExpenseShares {
-    // Shares an expense by the participants' use. More participants than a pool is shared by are refused before any is
-    // looked at.
+    // Shares an expense by the participants' use.
     fn by_use<H: Sharing>(
         rule: &H,
         expense: Cents,
         uses: &[MonthUse],
     ) -> Result<ExpenseShares, Fault>
+        requires { length uses.now ≤ MOST_WEIGHTS }
         ensures { MatchResult result (λ shares. (shares.expense ≡ expense) × (bill_refusal expense.0 uses.now ≡ None) × ExpenseShared (H.Sharing.shares rule.now) expense.0 (volumes_of uses.now) (peaks_of uses.now) (amounts shares.by_volume.items) (amounts shares.by_peak.items)) (λ f. bill_refusal expense.0 uses.now ≡ Some f) }
     {
-        if uses.len() > MOST_WEIGHTS {
-            return Err(wrong_count(VolumeLine::NUMBER));
-        }
         let weights = UseWeights::of(uses);
         let mut by_volume = no_shares(uses.len());
         let mut by_peak = no_shares(uses.len());
@@ -194,6 +191,10 @@ pub fn expense_bill<H: Sharing>(
 ) -> Result<String, Fault>
     ensures { BillAnswered (H.Sharing.shares rule.now) month.now.expense.0 month.now.participants.items result }
 {
+    // More than a pool is shared by are refused before any is looked at.
+    if month.participants.len() > MOST_WEIGHTS {
+        return Err(wrong_count(VolumeLine::NUMBER));
+    }
     let shares = ExpenseShares::by_use(rule, month.expense, &month.participants)?;
     // What `map_err` answers is not handed on as it is: the proof of that did not close.
     let page = shares.bill(heap).map_err(|_| no_memory())?;

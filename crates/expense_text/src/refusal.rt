@@ -21,7 +21,7 @@ fn push_text_line(row: &mut ArrayString<LONGEST_ROW>, line: usize)
     }
 }
 
-// ERR, the text line, the refusal's number and the layer. The numbers read as those numbers.
+// ERR, the text line, the refusal's number and the layer. Its numbers, in their columns, read as these numbers.
 pub fn refusal_row(heap: Global, fault: &Fault) -> Result<String, AllocError>
     ensures row { IfOk result (λ page. string_bytes page ≡ fault_row fault.now) }
     ensures reads { RowRead fault.now }
